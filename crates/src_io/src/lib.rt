@@ -1,0 +1,11 @@
+//! Where sources are read from and where text goes.
+//!
+//! Source: names and bytes of a device. Result: whole readings, whole writings, or the device's fault.
+//! Rule: this project's own; a device that tells what it holds is described by it, and each failure is counted.
+//! Main contract: `read_named` gives the held bytes, `write_all` writes all; Failed only where a count rose.
+//! Knows nothing of: what the bytes mean.
+#![tactic(auto)]
+
+mod device;
+
+pub use device::{Failed, OpenEnd, Sink, Sources};
