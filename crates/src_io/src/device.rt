@@ -1,7 +1,8 @@
-ghost use Rattle.std.specs.Prelude.{◌≡◌, ℕ, ◌≤◌, ◌<◌, List, Bool, Option, length, take, IsTrue, IfOk, OnOk, OnErr};
+ghost use Rattle.std.specs.Prelude.{◌≡◌, ℕ, ◌≤◌, ◌<◌, ◌-◌, List, Bool, Option, length, take, IsTrue, IfOk, IsOkAnd, OnOk, OnErr};
 ghost use Rattle.src_io.specs.Faults.{Rose};
 ghost use Rattle.src_io.specs.Holding.{Holding, Opens, Lacks, Reads};
 ghost use Rattle.src_io.specs.Written.{Appends};
+ghost use Rattle.src_io.specs.declared.device.OpenEnd.TheVariants as opening;
 
 use thiserror::Error;
 
@@ -17,6 +18,14 @@ pub enum OpenEnd {
     Missing,
     #[error("a device failed")]
     Failed,
+}
+
+impl From<Failed> for OpenEnd {
+    ghost from_gives = { λ _ e. e ≡ opening.Failed };
+
+    fn from(_e: Failed) -> OpenEnd {
+        OpenEnd::Failed
+    }
 }
 
 /// Where sources are read from, one name at a time.
@@ -56,9 +65,14 @@ pub trait Sink {
     /// How many calls failed.
     ghost faults: { Self → ℕ };
 
+    /// That this many more bytes are taken without a failure, where the object tells so.
+    ghost accepts: { Self → ℕ → Type 0 } = { λ _ _. ⊥ };
+
     /// Writes a front of the piece, and answers its length, at least one where the piece is not empty.
     fn write(&mut self, piece: &[u8]) -> Result<usize, Failed>
         ensures written { IfOk result (λ n. (n ≤ length piece.now) × (0 < length piece.now → 0 < n)
             × (faults self.new ≡ faults self.old) × Appends (written self.old) (written self.new) (take n piece.now)) }
-        ensures failed { OnErr result (Rose (faults self.old) (faults self.new) × (written self.new ≡ written self.old)) };
+        ensures failed { OnErr result (Rose (faults self.old) (faults self.new) × (written self.new ≡ written self.old)) }
+        ensures accepted { (n : ℕ) → length piece.now ≤ n → accepts self.old n
+            → IsOkAnd result (λ taken. accepts self.new (n - taken)) };
 }

@@ -6,6 +6,21 @@
 //! Knows nothing of: what the bytes mean.
 #![tactic(auto)]
 
+mod calls;
 mod device;
+mod file_sources;
+mod mem_sink;
+mod mem_sources;
+mod reading;
+mod std_sink;
+#[cfg(test)]
+mod tests;
+mod writing;
 
 pub use device::{Failed, OpenEnd, Sink, Sources};
+pub use file_sources::FileSources;
+pub use mem_sink::MemSink;
+pub use mem_sources::MemSources;
+pub use reading::{ReadEnd, read_named};
+pub use std_sink::StdSink;
+pub use writing::write_all;

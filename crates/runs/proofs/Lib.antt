@@ -1,0 +1,17 @@
+pub mod Inevitable
+pub mod Machines
+pub mod Close
+pub mod Runs
+pub mod Still
+pub mod Parallel
+pub mod Keep
+pub mod Follow
+pub mod Rows
+pub mod ItemRows
+pub mod Both
+pub mod Grow
+pub mod After
+pub mod Examples
+pub mod Begin
+pub mod Ends
+pub mod Paths

@@ -1,0 +1,14 @@
+pub mod Names
+pub mod Tree
+pub mod Env
+pub mod Patterns
+pub mod Ints
+pub mod Primitives
+pub mod Meaning
+pub mod Items
+pub mod Steps
+pub mod ItemSteps
+pub mod Seen
+pub mod Ordered
+pub mod Forms
+pub mod Examples

@@ -1,0 +1,4 @@
+pub mod CountedLemmas
+pub mod MemoryLemmas
+pub mod ReadingLemmas
+pub mod WrittenLemmas
