@@ -137,6 +137,7 @@ fn writes_to_a_writer(rt: HostRuntime) -> Result<(), Fail> {
     assert_eq!(rt; fs::read(&rt, TEXT)?.as_slice(), b"let x = 1".as_slice());
     let mut closed = StdSink::new(fs::open(&rt, TEXT)?);
     assert_eq!(rt; write_all(&mut closed, b"y"), Err(Failed));
+    assert_eq!(rt; write_all(&mut StdSink::new(rt.stdout()), b""), Ok(()));
     fs::remove_file(&rt, TEXT)?;
     Ok(())
 }

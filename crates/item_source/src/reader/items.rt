@@ -19,8 +19,7 @@ fn name_len(bytes: &[u8]) -> Option<usize>
         return None;
     };
     let digits = digits_len(rest);
-    let is_letter = 97 <= *first && *first <= 122;
-    if is_letter && digits <= 8 && !(*first == b'o' && digits == 0) {
+    if first.is_ascii_lowercase() && digits <= 8 && !(*first == b'o' && digits == 0) {
         Some(1 + digits)
     } else {
         None
@@ -65,7 +64,8 @@ fn read_bind(alloc: Global, bytes: &[u8]) -> Result<Option<(SourceItem, &[u8])>,
     Ok(Some((SourceItem::Bind(Name::new(alloc, name)?, literal), rest)))
 }
 
-/// The item at the front, and what is behind it.
+/// The item at the front, and what is behind it: white space, or nothing more.
+/// None where no item is there, or where something else follows it.
 #[tactic(auto, unfolding(crate::specs::Reading::item_at))]
 pub fn read_item(alloc: Global, bytes: &[u8]) -> Result<Option<(SourceItem, &[u8])>, NoMemory>
     ensures { IfOk result (λ found. option_map (λ x. (x.0, x.1.now)) found ≡ item_at bytes.now) }

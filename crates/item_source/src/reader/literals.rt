@@ -8,6 +8,7 @@ ghost use Rattle.item_source.specs.Reading.{escaped_at, byte_at, text_at, quote_
 use std::alloc::Global;
 use tl_text::{Lit, Name, NoMemory};
 
+/// The byte that the front stands for behind a backslash, and what is behind it.
 #[tactic(auto, unfolding(crate::specs::Reading::escaped_at))]
 fn escaped(bytes: &[u8]) -> Option<(u8, &[u8])>
     ensures { option_map (λ x. (x.0, x.1.now)) result ≡ escaped_at bytes.now }
@@ -28,7 +29,7 @@ fn text_byte(bytes: &[u8]) -> Option<(u8, &[u8])>
     match bytes {
         [b'"', ..] => None,
         [b'\\', rest @ ..] => escaped(rest),
-        [byte, rest @ ..] if 32 <= *byte && *byte <= 126 => Some((*byte, rest)),
+        [byte @ 32..=126, rest @ ..] => Some((*byte, rest)),
         _ => None,
     }
 }
@@ -59,6 +60,7 @@ fn read_text(alloc: Global, bytes: &[u8]) -> Result<Option<(Name, &[u8])>, NoMem
     Ok(Some((Name::new(alloc, text.as_slice())?, behind)))
 }
 
+/// The text of the string at the front, and what is behind it.
 #[tactic(auto, unfolding(crate::specs::Reading::string_at))]
 pub fn read_string(alloc: Global, bytes: &[u8]) -> Result<Option<(Name, &[u8])>, NoMemory>
     ensures { IfOk result (λ found. option_map (λ x. (x.0, x.1.now)) found ≡ string_at bytes.now) }
@@ -72,9 +74,10 @@ pub fn read_string(alloc: Global, bytes: &[u8]) -> Result<Option<(Name, &[u8])>,
 fn is_digit(byte: u8) -> bool
     ensures { result ≡ is_digit byte }
 {
-    48 <= byte && byte <= 57
+    byte.is_ascii_digit()
 }
 
+/// How many digits are at the front.
 pub fn digits_len(bytes: &[u8]) -> usize
     ensures value { result ≡ prefix_len is_digit bytes.now }
     ensures within { result ≤ length bytes.now }
@@ -95,6 +98,7 @@ fn value_of_digits(digits: &[u8]) -> u32
     value
 }
 
+/// The value of the one to nine digits at the front, and what is behind them.
 #[tactic(auto, unfolding(crate::specs::Reading::number_at))]
 fn read_number(bytes: &[u8]) -> Option<(u32, &[u8])>
     ensures { option_map (λ x. (x.0, x.1.now)) result ≡ number_at bytes.now }
@@ -107,6 +111,7 @@ fn read_number(bytes: &[u8]) -> Option<(u32, &[u8])>
     Some((value_of_digits(digits), rest))
 }
 
+/// The literal at the front, a string or a number, and what is behind it.
 #[tactic(auto, unfolding(crate::specs::Reading::literal_at))]
 pub fn read_literal(alloc: Global, bytes: &[u8]) -> Result<Option<(Lit, &[u8])>, NoMemory>
     ensures { IfOk result (λ found. option_map (λ x. (x.0, x.1.now)) found ≡ literal_at bytes.now) }

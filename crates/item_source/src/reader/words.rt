@@ -8,7 +8,7 @@ ghost use Rattle.item_source.specs.Reading.{behind_white, word_at, gap_at, word_
 fn is_white(byte: u8) -> bool
     ensures { result ≡ is_white byte }
 {
-    (9 <= byte && byte <= 13) || byte == b' '
+    matches!(byte, 9..=13 | b' ')
 }
 
 fn white_len(bytes: &[u8]) -> usize
@@ -18,12 +18,14 @@ fn white_len(bytes: &[u8]) -> usize
     bytes.iter().take_while(|byte| is_white(**byte)).count()
 }
 
+/// What is behind the white space at the front, which may be empty.
 pub fn behind_white(bytes: &[u8]) -> &[u8]
     ensures { result.now ≡ behind_white bytes.now }
 {
     &bytes[white_len(bytes)..]
 }
 
+/// What is behind a word, where that is at the front.
 #[tactic(auto, unfolding(crate::specs::Reading::word_at))]
 fn behind_word<'a>(word: &[u8], bytes: &'a [u8]) -> Option<&'a [u8]>
     ensures { option_map (λ rest. rest.now) result ≡ word_at word.now bytes.now }
@@ -31,6 +33,7 @@ fn behind_word<'a>(word: &[u8], bytes: &'a [u8]) -> Option<&'a [u8]>
     bytes.strip_prefix(word)
 }
 
+/// What is behind white space of one byte at least.
 #[tactic(auto, unfolding(crate::specs::Reading::gap_at))]
 pub fn behind_gap(bytes: &[u8]) -> Option<&[u8]>
     ensures { option_map (λ rest. rest.now) result ≡ gap_at bytes.now }
@@ -39,6 +42,7 @@ pub fn behind_gap(bytes: &[u8]) -> Option<&[u8]>
     if len == 0 { None } else { Some(&bytes[len..]) }
 }
 
+/// What is behind a word and a gap.
 #[tactic(auto, unfolding(crate::specs::Reading::word_gap_at))]
 pub fn behind_word_gap<'a>(word: &[u8], bytes: &'a [u8]) -> Option<&'a [u8]>
     ensures { option_map (λ rest. rest.now) result ≡ word_gap_at word.now bytes.now }
@@ -47,6 +51,7 @@ pub fn behind_word_gap<'a>(word: &[u8], bytes: &'a [u8]) -> Option<&'a [u8]>
     behind_gap(rest)
 }
 
+/// White space is at the front, or the source ends.
 pub fn is_parted(bytes: &[u8]) -> bool
     ensures { result ≡ is_parted bytes.now }
 {

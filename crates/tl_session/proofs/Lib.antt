@@ -1,0 +1,12 @@
+pub mod UnitNames
+pub mod Typed
+pub mod Keeps
+pub mod Values
+pub mod Evaluates
+pub mod Rows
+pub mod Units
+pub mod Texts
+pub mod AgreesAll
+pub mod BuiltItems
+pub mod Translation
+pub mod SessionLemmas

@@ -1,0 +1,47 @@
+-- What a session keeps when a source is added.
+use Rattle.std.proofs.Common.{◌≡◌, ℕ, ◌+◌, ◌<◌, ◌≤◌, List, [], ◌∷◌, ◌++◌, map, length, refl, sym, ◌∙◌, ap, subst, arith, inl, inr}
+use Rattle.std.proofs.lemmas.List.{map-append}
+use Rattle.tl_text.specs.declared.code.Code.{Code}
+use Rattle.tl_text.specs.declared.place.Place.{Place}
+use Rattle.item_source.specs.declared.item.SourceItem.{SourceItem}
+use Rattle.item_source.specs.Source.{IsProgram, Stops}
+use Rattle.item_source.proofs.Outcomes.{program_no_stop}
+use Rattle.tl_session.specs.Faithful.{Standing, with_source, IsTranslation}
+use Rattle.tl_session.specs.Kept.{Source}
+use Rattle.tl_session.specs.Refused.{Fails, source_limit, total_limit, total_bytes}
+use Rattle.tl_session.specs.Sessions.{source_of, standing_of}
+use Rattle.tl_session.specs.declared.session.Accepted.{Accepted}
+use Rattle.tl_session.proofs.Translation.{translation_more}
+
+-- a program within the limits does not fail
+pub passes : (before : List Source) (source : Source) (program : List SourceItem) → length source.bytes ≤ source_limit
+    → total_bytes before + length source.bytes ≤ total_limit → IsProgram source.bytes program → (place : Place) (c : Code) → Fails before source place c → ⊥
+passes before source program small few is place c (inl p) = omega arith
+passes before source program small few is place c (inr (inl q)) = omega arith
+passes before source program small few is place c (inr (inr r)) = program_no_stop program source.bytes r.2 is r.3
+
+-- with one more source at the end
+pub standing_of-push : (accepted : List Accepted) (a : Accepted) → standing_of (accepted ++ a ∷ []) ≡ with_source (standing_of accepted) (source_of a) a.program
+standing_of-push accepted a = λ i. record {
+  sources = map-append source_of accepted (a ∷ []) i;
+  programs = map-append (λ (b : Accepted). b.program) accepted (a ∷ []) i;
+}
+
+-- the session with one more source at the end is a translation where it was one
+pub translation-push : (accepted after : List Accepted) (st : Standing) (source : Source) (a : Accepted) → st ≡ standing_of accepted → after ≡ accepted ++ a ∷ []
+    → source_of a ≡ source → length st.sources < 65536 → length source.bytes ≤ source_limit → total_bytes st.sources + length source.bytes ≤ total_limit
+    → IsProgram source.bytes a.program → IsTranslation st → IsTranslation (standing_of after)
+translation-push accepted after st source a is pushed named low small few program t =
+    let P : List Accepted → Type 0 = λ l. IsTranslation (standing_of l) in
+    let Q : Standing → Type 0 = λ s. IsTranslation s in
+    let R : Standing → Type 0 = λ s. IsTranslation (with_source s source a.program) in
+    let S : Source → Type 0 = λ w. IsTranslation (with_source (standing_of accepted) w a.program) in
+    subst P (sym pushed) (subst Q (sym (standing_of-push accepted a)) (subst S (sym named) (subst R is
+    (translation_more st source a.program low t (passes st.sources source a.program small few program) program))))
+
+-- the count of a session is that of its sources
+pub counted : (accepted : List Accepted) (st : Standing) (total more : ℕ) → standing_of accepted ≡ st → total ≡ total_bytes (map source_of accepted)
+    → total + more ≤ total_limit → total_bytes st.sources + more ≤ total_limit
+counted accepted st total more is count low =
+    let e : total_bytes (map source_of accepted) ≡ total_bytes st.sources = ap (λ (s : Standing). total_bytes s.sources) is in
+    omega arith

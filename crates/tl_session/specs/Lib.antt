@@ -1,0 +1,11 @@
+pub mod Program
+pub mod Meaning
+pub mod Static
+pub mod OcTypes
+pub mod Kept
+pub mod Probe
+pub mod Refused
+pub mod Runs
+pub mod Faithful
+pub mod Answers
+pub mod Sessions
