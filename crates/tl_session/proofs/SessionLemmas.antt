@@ -6,7 +6,12 @@ use Rattle.tl_text.specs.declared.place.Place.{Place}
 use Rattle.item_source.specs.declared.item.SourceItem.{SourceItem}
 use Rattle.item_source.specs.Source.{IsProgram, Stops}
 use Rattle.item_source.proofs.Outcomes.{program_no_stop}
-use Rattle.tl_session.specs.Faithful.{Standing, with_source, IsTranslation}
+use Rattle.std.specs.List.{flat_map}
+use Rattle.std.proofs.Common.{suc, append_assoc, append-nil}
+use Rattle.item_text.specs.Layout.{layout}
+use Rattle.item_text.specs.Written.{rt_tree, unit_tree, base_of}
+use Rattle.tl_session.specs.Answers.{next_text}
+use Rattle.tl_session.specs.Faithful.{Standing, with_source, texts_from, texts_of, bytes_of, IsTranslation}
 use Rattle.tl_session.specs.Kept.{Source}
 use Rattle.tl_session.specs.Refused.{Fails, source_limit, total_limit, total_bytes}
 use Rattle.tl_session.specs.Sessions.{source_of, standing_of}
@@ -45,3 +50,23 @@ pub counted : (accepted : List Accepted) (st : Standing) (total more : ℕ) → 
 counted accepted st total more is count low =
     let e : total_bytes (map source_of accepted) ≡ total_bytes st.sources = ap (λ (s : Standing). total_bytes s.sources) is in
     omega arith
+
+texts_from-more : (k : ℕ) (ss : List Source) (ps : List (List SourceItem)) (s : Source) (p : List SourceItem) → length ps ≡ length ss
+    → flat_map layout (texts_from k (ss ++ s ∷ []) (ps ++ p ∷ [])) ≡ flat_map layout (texts_from k ss ps) ++ layout (unit_tree (k + length ss) (base_of s.name) p)
+texts_from-more k [] [] s p same =
+    append-nil (layout (unit_tree k (base_of s.name) p)) ∙ ap (λ n. layout (unit_tree n (base_of s.name) p)) (let e : k ≡ k + 0 = omega arith in e)
+texts_from-more k [] (q ∷ ps) s p same = absurd (omega arith)
+texts_from-more k (t ∷ ss) [] s p same = absurd (omega arith)
+texts_from-more k (t ∷ ss) (q ∷ ps) s p same =
+    let first : List ℕ = layout (unit_tree k (base_of t.name) q) in
+    ap (λ l. first ++ l) (texts_from-more (suc k) ss ps s p (omega arith))
+    ∙ sym (append_assoc first (flat_map layout (texts_from (suc k) ss ps)) (layout (unit_tree (suc k + length ss) (base_of s.name) p)))
+    ∙ ap (λ n. (first ++ flat_map layout (texts_from (suc k) ss ps)) ++ layout (unit_tree n (base_of s.name) p)) (let e : suc k + length ss ≡ k + suc (length ss) = omega arith in e)
+
+-- the bytes with one source more
+pub bytes_more : (st : Standing) (s : Source) (p : List SourceItem) → length st.programs ≡ length st.sources
+    → bytes_of (texts_of (with_source st s p)) ≡ bytes_of (texts_of st) ++ layout (next_text st s p)
+bytes_more st s p same =
+    ap (λ l. layout rt_tree ++ l) (texts_from-more 1 st.sources st.programs s p same)
+    ∙ sym (append_assoc (layout rt_tree) (flat_map layout (texts_of st)) (layout (unit_tree (1 + length st.sources) (base_of s.name) p)))
+    ∙ ap (λ n. (layout rt_tree ++ flat_map layout (texts_of st)) ++ layout (unit_tree n (base_of s.name) p)) (let e : 1 + length st.sources ≡ suc (length st.sources) = omega arith in e)
