@@ -3,14 +3,13 @@ use Rattle.std.proofs.Common.{◌≡◌, ℕ, zero, suc, ◌≤◌, ◌⊎◌, i
 use Rattle.beh.proofs.Matching.{begins_same, extends_equal}
 use Rattle.runs.proofs.Close.{close_empty}
 use Rattle.runs.proofs.Inevitable.{Ahead, CanOf, Passed, RunOf, inev_split}
-use Rattle.runs.proofs.ItemRows.{items_follow}
 use Rattle.runs.proofs.Keep.{empty_ordered}
 use Rattle.runs.proofs.Machines.{Follows, FollowsOf, GoalOf, Machine, trees, works}
-use Rattle.runs.proofs.Rows.{follows_mean}
 use Rattle.runs.proofs.Runs.{run_out, stays, step_out, work_out}
 use Rattle.runs.specs.Env.{empty}
-use Rattle.runs.specs.ItemSteps.{Lost, Rest, Whole, Work, WorkStep, bound}
-use Rattle.runs.specs.Items.{Scope, mean_items}
+use Rattle.runs.specs.ItemSteps.{Lost, Rest, Whole, Work, WorkStep}
+use Rattle.runs.specs.Items.{Scope, mean_items, held}
+use Rattle.runs.proofs.Followed.{follows_mean, items_follow}
 use Rattle.runs.specs.Ordered.{Ordered, OrderedItems, OrderedMem, OrderedScope}
 use Rattle.runs.specs.Primitives.{Next, St, tree}
 use Rattle.runs.specs.Seen.{Config, ConfigStep, Place, PlaceStep, at_start, behaviour, exn_name, seen_config, seen_place, seen_tree, seen_work, shown}
@@ -138,5 +137,5 @@ config_runs (suc j) c d r = (r.0.work, r.0.st, r.1, config_runs j r.0 d r.2)
 
 pub rows_agree : (c : Scope) (is : Items) (s : St) → OrderedScope c → OrderedItems is → OrderedMem s.mem → ((n : ℕ) → Right (mean_items n c is s)) → Agree (λ n. behaviour (mean_items n c is s)) ConfigStep seen_config (at_start c is s)
 rows_agree c is s hc h m w =
-    both works seen_work work_sight (λ n. mean_items n c is s) (Rest c is) s w (λ n. items_follow n c is s hc h m)
+    both works seen_work work_sight (λ n. mean_items n c is s) (Rest (held c) is) s w (λ n. items_follow n c is s hc h m)
     ConfigStep (λ (x : Config). x.work) (λ (x : Config). x.st) (at_start c is s) (λ x y st. st) (λ x can. (record { work = can.0; st = can.1 }, can.2)) (λ j x run. config_runs j (at_start c is s) x run)

@@ -1,10 +1,10 @@
 -- Values put in one after the other.
-use Rattle.std.proofs.Common.{◌≡◌, List, Option, Some, None, Bool, true, false, if◌then◌else◌, slice_get, refl, ap, ap₂, ◌∙◌}
-use Rattle.runs.specs.Env.{Env, binds, binds_any, close, close_all, close_funs, close_pat, close_pats, close_rules, close_tag, empty, first, group, hide, names, over, put, tag_or, var_or}
-use Rattle.runs.specs.ItemSteps.{bound}
-use Rattle.runs.specs.Names.{Name, same, same_part}
+use Rattle.std.proofs.Common.{◌≡◌, List, [], ◌∷◌, Option, Some, None, Bool, true, false, if◌then◌else◌, slice_get, refl, ap, ap₂, ◌∙◌}
+use Rattle.runs.specs.Env.{Env, binds, binds_any, close, close_all, close_funs, close_pat, close_pats, close_rules, close_tag, empty, first, found, found_env, found_or, group, hide, kept, names, over, put, put_into, tag_or, through, under, var_or}
+use Rattle.runs.specs.Names.{Name, Part, same, same_part}
 use Rattle.runs.specs.Patterns.{both, content, layer, matched, matched_all, no_match, same_const, tagged}
-use Rattle.runs.specs.Tree.{Broken, Case, Con, Cons, Datum, Drawn, Exn, Exp, Exps, Fail, Fn, Fun, Funs, Group, Is, Item, Lit, Loc, Nam, Named, NewExn, Nil, NoFuns, NoVals, Node, PAny, PCell, PCon, PExn, PLayer, PLit, PMore, PNil, PTup, PVar, Pat, Pats, Rec, Rule, Rules, Stop, Tag, Try, Tup, Val, Vals, Var}
+use Rattle.runs.specs.Scope.{Scope, held, scope_of}
+use Rattle.runs.specs.Tree.{Absent, Broken, Case, Con, Cons, Datum, Drawn, Exn, Exp, Exps, Fail, Fn, Found, Fun, Funs, Group, Held, Hold, InMod, InStruct, Is, Item, LetMod, Lit, Loc, Nam, Named, NewExn, Nil, NoFuns, NoVals, Node, PAny, PCell, PCon, PExn, PLayer, PLit, PMore, PNil, PTup, PVar, Pat, Pats, Rec, Rule, Rules, Stop, StructOf, Tag, There, Try, Tup, Val, Vals, Var}
 use mathlib.Core.Path.{fun_ext}
 
 hide_first : (b : Bool) (o p : Option Val) → first (if b then None else o) (if b then None else p) ≡ (if b then None else first o p)
@@ -52,7 +52,7 @@ tag_over a b (Drawn k) = refl
 tag_over a b Broken = refl
 
 mutual
-  pat_over : (a b : Env) (p : Pat) → close_pat b (close_pat a p) ≡ close_pat (over a b) p
+  pub pat_over : (a b : Env) (p : Pat) → close_pat b (close_pat a p) ≡ close_pat (over a b) p
   pat_over a b PAny = refl
   pat_over a b (PVar x) = refl
   pat_over a b (PLit n) = refl
@@ -69,6 +69,70 @@ mutual
 rule_eq : {p q : Pat} {a b : Exp} {rs qs : Rules} → p ≡ q → a ≡ b → rs ≡ qs → Rule p a rs ≡ Rule q b qs
 rule_eq {q = q} {a = a} {b = b} {rs = rs} e f g = ap (λ x. Rule x a rs) e ∙ ap (λ x. Rule q x rs) f ∙ ap (λ x. Rule q b x) g
 
+-- values that were put into a tree
+found_kept : (o : Option Val) → found (kept o) ≡ o
+found_kept None = refl
+found_kept (Some v) = refl
+
+kept_found : (f : Found) → kept (found f) ≡ f
+kept_found Absent = refl
+kept_found (There v) = refl
+
+pub scope_held : (c : Scope) → scope_of (held c) ≡ c
+scope_held c = ap₂ (λ e o. record { env = e; own = o }) (fun_ext (λ y. found_kept (c.env y))) (fun_ext (λ y. found_kept (c.own y)))
+
+pub held_scope : (h : Held) → held (scope_of h) ≡ h
+held_scope (Hold e o) = ap₂ (λ x y. Hold x y) (fun_ext (λ y. kept_found (e y))) (fun_ext (λ y. kept_found (o y)))
+
+into_case : (f : Found) (o p : Option Val) → found_or (found_or f o) p ≡ found_or f (first o p)
+into_case Absent None p = refl
+into_case Absent (Some v) p = refl
+into_case (There v) o p = refl
+
+put_into_put : (e : Name → Found) (a b : Env) → put_into (put_into e a) b ≡ put_into e (over a b)
+put_into_put e a b = fun_ext (λ y. into_case (e y) (a y) (b y))
+
+into_none : (f : Found) → found_or f None ≡ f
+into_none Absent = refl
+into_none (There v) = refl
+
+put_into_empty : (e : Name → Found) → put_into e empty ≡ e
+put_into_empty e = fun_ext (λ y. into_none (e y))
+
+found_first : (f : Found) (o : Option Val) → found (found_or f o) ≡ first (found f) o
+found_first Absent o = found_kept o
+found_first (There v) o = refl
+
+pub found_put : (e : Name → Found) (a : Env) → found_env (put_into e a) ≡ over (found_env e) a
+found_put e a = fun_ext (λ y. found_first (e y) (a y))
+
+over_case : (o p q : Option Val) → first (first o p) q ≡ first o (first p q)
+over_case None p q = refl
+over_case (Some v) p q = refl
+
+pub over_over : (a b c : Env) → over (over a b) c ≡ over a (over b c)
+over_over a b c = fun_ext (λ y. over_case (a y) (b y) (c y))
+
+none_last : (o : Option Val) → first o None ≡ o
+none_last None = refl
+none_last (Some v) = refl
+
+pub over_empty : (a : Env) → over a empty ≡ a
+over_empty a = fun_ext (λ y. none_last (a y))
+
+-- a structure hides the paths through its name
+under_if : (c : Bool) (o a b : Option Val) → first (if c then None else a) (if c then o else b) ≡ (if c then o else first a b)
+under_if true o a b = refl
+under_if false o a b = refl
+
+under_case : (p : Part) (g a b : Env) (y : Name) → over (hide (through p) a) (under p g b) y ≡ under p g (over a b) y
+under_case p g a b [] = refl
+under_case p g a b (q ∷ []) = refl
+under_case p g a b (q ∷ r ∷ x) = under_if (same_part p q) (g (r ∷ x)) (a (q ∷ r ∷ x)) (b (q ∷ r ∷ x))
+
+pub under_hidden : (p : Part) (g a b : Env) → over (hide (through p) a) (under p g b) ≡ under p g (over a b)
+under_hidden p g a b = fun_ext (λ y. under_case p g a b y)
+
 mutual
   pub close_close : (a b : Env) (e : Exp) → close b (close a e) ≡ close (over a b) e
   close_close a b (Is w) = refl
@@ -83,20 +147,25 @@ mutual
   close_close a b (Node op es) = ap (Node op) (close_close_all a b es)
   close_close a b (Case f d rs) = ap₂ (λ x y. Case f x y) (close_close a b d) (close_close_rules a b rs)
   close_close a b (NewExn y e) = ap (NewExn y) (close_close (hide (same y) a) (hide (same y) b) e ∙ ap (λ c. close c e) (hide_over (same y) a b))
+  close_close a b (LetMod e p is t) =
+      ap₂ (λ e1 t1. LetMod e1 p is t1) (put_into_put e a b) (close_close (hide (through p) a) (hide (through p) b) t ∙ ap (λ c. close c t) (hide_over (through p) a b))
+  close_close a b (InMod p w t) = refl
+  close_close a b (StructOf e is) = ap (λ e1. StructOf e1 is) (put_into_put e a b)
+  close_close a b (InStruct w) = refl
   close_close a b (Try d rs) = ap₂ (λ x y. Try x y) (close_close a b d) (close_close_rules a b rs)
 
   close_close_all : (a b : Env) (es : Exps) → close_all b (close_all a es) ≡ close_all (over a b) es
   close_close_all a b Nil = refl
   close_close_all a b (Cons e es) = ap₂ Cons (close_close a b e) (close_close_all a b es)
 
-  close_close_rules : (a b : Env) (rs : Rules) → close_rules b (close_rules a rs) ≡ close_rules (over a b) rs
+  pub close_close_rules : (a b : Env) (rs : Rules) → close_rules b (close_rules a rs) ≡ close_rules (over a b) rs
   close_close_rules a b Stop = refl
   close_close_rules a b (Rule p e rs) =
       rule_eq (pat_over a b p)
       (ap (λ c. close c (close (hide (binds p) a) e)) (hide_same _ _ b (binds_close a p)) ∙ close_close (hide (binds p) a) (hide (binds p) b) e ∙ ap (λ c. close c e) (hide_over (binds p) a b))
       (close_close_rules a b rs)
 
-  close_close_funs : (a b : Env) (fs : Funs) → close_funs b (close_funs a fs) ≡ close_funs (over a b) fs
+  pub close_close_funs : (a b : Env) (fs : Funs) → close_funs b (close_funs a fs) ≡ close_funs (over a b) fs
   close_close_funs a b NoFuns = refl
   close_close_funs a b (Fun g f rs fs) = ap₂ (λ x y. Fun g f x y) (close_close_rules a b rs) (close_close_funs a b fs)
 
@@ -174,6 +243,10 @@ mutual
   close_empty (Node op es) = ap (Node op) (close_empty_all es)
   close_empty (Case f d rs) = ap₂ (λ x y. Case f x y) (close_empty d) (rules_empty rs)
   close_empty (NewExn y e) = ap (NewExn y) (ap (λ c. close c e) (hide_empty (same y)) ∙ close_empty e)
+  close_empty (LetMod e p is t) = ap₂ (λ e1 t1. LetMod e1 p is t1) (put_into_empty e) (ap (λ c. close c t) (hide_empty (through p)) ∙ close_empty t)
+  close_empty (InMod p w t) = refl
+  close_empty (StructOf e is) = ap (λ e1. StructOf e1 is) (put_into_empty e)
+  close_empty (InStruct w) = refl
   close_empty (Try d rs) = ap₂ (λ x y. Try x y) (close_empty d) (rules_empty rs)
 
   close_empty_all : (es : Exps) → close_all empty es ≡ es
@@ -234,3 +307,7 @@ mutual
   all_dom m PNil NoVals = λ y. refl
   all_dom m (PMore p ps) (Item v vs) = dom_both (matched m p v) (matched_all m ps vs) (binds p) (binds_any ps) (matched_dom m p v) (all_dom m ps vs)
   all_dom m _ _ = tt
+
+-- the values of a structure put in, after the values of what stands round it
+pub close_under : (p : Part) (g env : Env) (e : Exp) → close (under p g empty) (close (hide (through p) env) e) ≡ close (under p g env) e
+close_under p g env e = close_close (hide (through p) env) (under p g empty) e ∙ ap (λ c. close c e) (under_hidden p g env empty ∙ ap (under p g) (over_empty env))

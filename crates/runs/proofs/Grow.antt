@@ -1,16 +1,17 @@
 -- A larger n goes on from a smaller one.
 use Rattle.std.proofs.Common.{◌≡◌, ℕ, zero, suc, ◌+◌, Option, Some, None, refl, sym, ap, subst, arith}
-use Rattle.beh.specs.Behaviour.{Begins, Extends}
-use Rattle.beh.specs.Agree.{GoesOn}
 use Rattle.beh.proofs.Matching.{begins_same, begins_trans, extends_equal}
-use Rattle.runs.specs.Tree.{Exp, Is, Fail, Lit, Var, Fn, Group, Node, Case, NewExn, Try, Fall, Stuck, Raises, Exps, Nil, Cons, Rules, Stop, Rule, Val, Items, End, Value, Functions, Exception, Alias, Struct}
-use Rattle.runs.specs.Env.{Env, put, hide, over, within, names, group, close_pat, close_funs}
-use Rattle.runs.specs.Patterns.{matched}
-use Rattle.runs.specs.Primitives.{St, Next, Gives, Throws, Calls, act, drawn, next_name}
-use Rattle.runs.specs.Meaning.{Res, Done, Raised, More, Wrong, Go, then_do, perform, known, or_rescue, fallen, or_next, ev, ev_all, ev_rules, mean}
-use Rattle.runs.specs.Items.{Scope, with_vars, with_funs, with_exn, with_struct, inside, ev_items, mean_items}
-use Rattle.runs.specs.Seen.{behaviour}
+use Rattle.beh.specs.Agree.{GoesOn}
+use Rattle.beh.specs.Behaviour.{Begins, Extends}
 use Rattle.runs.proofs.Runs.{Kept, act_kept}
+use Rattle.runs.specs.Env.{Env, close_funs, close_pat, empty, fields, found_env, functor_at, group, hide, kept_env, names, nothing, over, put, under, within}
+use Rattle.runs.specs.Items.{mean_items}
+use Rattle.runs.specs.Meaning.{Done, Go, More, Raised, Res, Wrong, applied, ev, ev_all, ev_items, ev_rules, fallen, known, mean, or_next, or_rescue, perform, then_do}
+use Rattle.runs.specs.Patterns.{matched}
+use Rattle.runs.specs.Primitives.{Calls, Gives, Next, St, Throws, act, body, drawn, next_name}
+use Rattle.runs.specs.Scope.{Scope, inside, with_exn, with_functor, with_funs, with_struct, with_vars}
+use Rattle.runs.specs.Seen.{behaviour}
+use Rattle.runs.specs.Tree.{Alias, Applied, Case, Cons, End, Exception, Exp, Exps, Fail, Fall, Fn, Functions, Functor, FunctorOf, Group, InMod, InStruct, Is, Items, LetMod, Lit, Module, NewExn, Nil, Node, Raises, Rule, Rules, Stop, Struct, StructOf, Stuck, Try, Val, Value, Var}
 
 -- what was written before comes first
 abbrev pub Grows : {A : Type 0} → Res A → St → Type 0
@@ -93,6 +94,16 @@ perform_up f g (Some (Gives v s1)) s h = refl
 perform_up f g (Some (Throws v s1)) s h = refl
 perform_up f g (Some (Calls a e s1)) s h = h a e s1
 
+applied_grows : (go : Go) → Growing go → (o : Option Val) (b : Env) (s : St) → Grows (applied go o b s) s
+applied_grows go h None b s = begins_same s.out
+applied_grows go h (Some (Functor e x body)) b s = h (under x b (found_env e)) (StructOf nothing body) s
+applied_grows go h (Some v) b s = begins_same s.out
+
+applied_up : (f g : Go) → ((a : Env) (e : Exp) (s : St) → Up (f a e s) (g a e s)) → (o : Option Val) (b : Env) (s : St) → Up (applied f o b s) (applied g o b s)
+applied_up f g u None b s = refl
+applied_up f g u (Some (Functor e x body)) b s = u (under x b (found_env e)) (StructOf nothing body) s
+applied_up f g u (Some v) b s = refl
+
 mutual
   pub ev_grows : (go : Go) → Growing go → (e : Exp) (a : Env) (s : St) → Grows (ev go a e s) s
   ev_grows go h (Is v) a s = begins_same s.out
@@ -104,6 +115,14 @@ mutual
   ev_grows go h (Node op es) a s = then_grows (ev_all go a es s) (λ vs s1. perform go (act op vs s1) s1) s (all_grows go h es a s) (λ vs s1. perform_grows go (act op vs s1) s1 h (act_kept op vs s1))
   ev_grows go h (Case f d rs) a s = then_grows (ev go a d s) (λ v s1. ev_rules go a rs (fallen f s1) v s1) s (ev_grows go h d a s) (λ v s1. rules_grows go h rs a (fallen f s1) v s1 (fallen_grows _ f s1))
   ev_grows go h (NewExn x b) a s = grows_from (ev go (put x (next_name s) a) b (drawn x s)) s (drawn x s) (begins_same s.out) (ev_grows go h b (put x (next_name s) a) (drawn x s))
+  ev_grows go h (LetMod e p is b) a s =
+      then_grows (ev_items go (record { env = over (found_env e) a; own = empty }) is s) (λ (c : Scope) s1. ev go (under p c.own a) b s1) s (items_grows go h is (record { env = over (found_env e) a; own = empty }) s)
+      (λ c s1. ev_grows go h b (under p c.own a) s1)
+  ev_grows go h (InMod p w b) a s = begins_same s.out
+  ev_grows go h (StructOf e is) a s =
+      then_grows (ev_items go (record { env = over (found_env e) a; own = empty }) is s) (λ (c : Scope) s1. Done (Module (kept_env c.own)) s1) s (items_grows go h is (record { env = over (found_env e) a; own = empty }) s)
+      (λ c s1. begins_same s1.out)
+  ev_grows go h (InStruct w) a s = begins_same s.out
   ev_grows go h (Try d rs) a s = or_grows (ev go a d s) (λ v s1. ev_rules go a rs (Raised v s1) v s1) s (ev_grows go h d a s) (λ v s1. rules_grows go h rs a (Raised v s1) v s1 (begins_same s1.out))
 
   pub all_grows : (go : Go) → Growing go → (es : Exps) (a : Env) (s : St) → Grows (ev_all go a es s) s
@@ -114,6 +133,21 @@ mutual
   rules_grows go h Stop a r v s k = k
   rules_grows go h (Rule p b rs) a r v s k =
       next_grows (matched s.mem (close_pat a p) v) (λ bs. ev go (over bs a) b s) (ev_rules go a rs r v s) s (λ bs. ev_grows go h b (over bs a) s) (rules_grows go h rs a r v s k)
+
+  pub items_grows : (go : Go) → Growing go → (is : Items) (c : Scope) (s : St) → Grows (ev_items go c is s) s
+  items_grows go h End c s = begins_same s.out
+  items_grows go h (Value f p a is) c s =
+      then_grows (ev go c.env a s) (λ v s1. or_next (matched s1.mem (close_pat c.env p) v) (λ bs. ev_items go (with_vars bs c) is s1) (fallen f s1)) s (ev_grows go h a c.env s)
+      (λ v s1. next_grows (matched s1.mem (close_pat c.env p) v) (λ bs. ev_items go (with_vars bs c) is s1) (fallen f s1) s1 (λ bs. items_grows go h is (with_vars bs c) s1) (fallen_grows _ f s1))
+  items_grows go h (Functions fs is) c s = items_grows go h is (with_funs fs c) s
+  items_grows go h (Exception x is) c s = grows_from (ev_items go (with_exn x s c) is (drawn x s)) s (drawn x s) (begins_same s.out) (items_grows go h is (with_exn x s c) (drawn x s))
+  items_grows go h (Alias p x is) c s = items_grows go h is (with_struct p (within x c.env) c) s
+  items_grows go h (FunctorOf f x body is) c s = items_grows go h is (with_functor f x body c) s
+  items_grows go h (Applied p f a is) c s =
+      then_grows (applied go (c.env (functor_at f)) (within a c.env) s) (λ v s1. ev_items go (with_struct p (fields v) c) is s1) s (applied_grows go h (c.env (functor_at f)) (within a c.env) s)
+      (λ v s1. items_grows go h is (with_struct p (fields v) c) s1)
+  items_grows go h (Struct p body is) c s =
+      then_grows (ev_items go (inside c) body s) (λ e s1. ev_items go (with_struct p e.own c) is s1) s (items_grows go h body (inside c) s) (λ e s1. items_grows go h is (with_struct p e.own c) s1)
 
 mutual
   pub ev_up : (f g : Go) → ((a : Env) (e : Exp) (s : St) → Up (f a e s) (g a e s)) → Growing g → (e : Exp) (a : Env) (s : St) → Up (ev f a e s) (ev g a e s)
@@ -128,6 +162,15 @@ mutual
       then_up (ev f a d s) (ev g a d s) (λ v s1. ev_rules f a rs (fallen k s1) v s1) (λ v s1. ev_rules g a rs (fallen k s1) v s1) (ev_up f g u h d a s)
       (λ v s1. rules_up f g u h rs a (fallen k s1) v s1) (λ v s1. rules_grows g h rs a (fallen k s1) v s1 (fallen_grows _ k s1))
   ev_up f g u h (NewExn x b) a s = ev_up f g u h b (put x (next_name s) a) (drawn x s)
+  ev_up f g u h (LetMod e p is b) a s =
+      let c0 : Scope = record { env = over (found_env e) a; own = empty } in
+      then_up (ev_items f c0 is s) (ev_items g c0 is s) (λ (c : Scope) s1. ev f (under p c.own a) b s1) (λ (c : Scope) s1. ev g (under p c.own a) b s1) (items_up f g u h is c0 s)
+      (λ c s1. ev_up f g u h b (under p c.own a) s1) (λ c s1. ev_grows g h b (under p c.own a) s1)
+  ev_up f g u h (InMod p w b) a s = refl
+  ev_up f g u h (StructOf e is) a s =
+      let c0 : Scope = record { env = over (found_env e) a; own = empty } in
+      then_up (ev_items f c0 is s) (ev_items g c0 is s) (λ (c : Scope) s1. Done (Module (kept_env c.own)) s1) (λ (c : Scope) s1. Done (Module (kept_env c.own)) s1) (items_up f g u h is c0 s) (λ c s1. refl) (λ c s1. begins_same s1.out)
+  ev_up f g u h (InStruct w) a s = refl
   ev_up f g u h (Try d rs) a s =
       or_up (ev f a d s) (ev g a d s) (λ v s1. ev_rules f a rs (Raised v s1) v s1) (λ v s1. ev_rules g a rs (Raised v s1) v s1) (ev_up f g u h d a s)
       (λ v s1. rules_up f g u h rs a (Raised v s1) v s1) (λ v s1. rules_grows g h rs a (Raised v s1) v s1 (begins_same s1.out))
@@ -145,29 +188,22 @@ mutual
       next_up (matched s.mem (close_pat a p) v) (λ bs. ev f (over bs a) b s) (λ bs. ev g (over bs a) b s) (ev_rules f a rs r v s) (ev_rules g a rs r v s)
       (λ bs. ev_up f g u h b (over bs a) s) (rules_up f g u h rs a r v s)
 
-pub items_grows : (go : Go) → Growing go → (is : Items) (c : Scope) (s : St) → Grows (ev_items go c is s) s
-items_grows go h End c s = begins_same s.out
-items_grows go h (Value f p a is) c s =
-    then_grows (ev go c.env a s) (λ v s1. or_next (matched s1.mem (close_pat c.env p) v) (λ bs. ev_items go (with_vars bs c) is s1) (fallen f s1)) s (ev_grows go h a c.env s)
-    (λ v s1. next_grows (matched s1.mem (close_pat c.env p) v) (λ bs. ev_items go (with_vars bs c) is s1) (fallen f s1) s1 (λ bs. items_grows go h is (with_vars bs c) s1) (fallen_grows _ f s1))
-items_grows go h (Functions fs is) c s = items_grows go h is (with_funs fs c) s
-items_grows go h (Exception x is) c s = grows_from (ev_items go (with_exn x s c) is (drawn x s)) s (drawn x s) (begins_same s.out) (items_grows go h is (with_exn x s c) (drawn x s))
-items_grows go h (Alias p x is) c s = items_grows go h is (with_struct p (within x c.env) c) s
-items_grows go h (Struct p body is) c s =
-    then_grows (ev_items go (inside c) body s) (λ e s1. ev_items go (with_struct p e.own c) is s1) s (items_grows go h body (inside c) s) (λ e s1. items_grows go h is (with_struct p e.own c) s1)
-
-pub items_up : (f g : Go) → ((a : Env) (e : Exp) (s : St) → Up (f a e s) (g a e s)) → Growing g → (is : Items) (c : Scope) (s : St) → Up (ev_items f c is s) (ev_items g c is s)
-items_up f g u h End c s = refl
-items_up f g u h (Value k p a is) c s =
-    then_up (ev f c.env a s) (ev g c.env a s) (λ v s1. or_next (matched s1.mem (close_pat c.env p) v) (λ bs. ev_items f (with_vars bs c) is s1) (fallen k s1)) (λ v s1. or_next (matched s1.mem (close_pat c.env p) v) (λ bs. ev_items g (with_vars bs c) is s1) (fallen k s1)) (ev_up f g u h a c.env s)
-    (λ v s1. next_up (matched s1.mem (close_pat c.env p) v) (λ bs. ev_items f (with_vars bs c) is s1) (λ bs. ev_items g (with_vars bs c) is s1) (fallen k s1) (fallen k s1) (λ bs. items_up f g u h is (with_vars bs c) s1) (up_same (fallen k s1)))
-    (λ v s1. next_grows (matched s1.mem (close_pat c.env p) v) (λ bs. ev_items g (with_vars bs c) is s1) (fallen k s1) s1 (λ bs. items_grows g h is (with_vars bs c) s1) (fallen_grows _ k s1))
-items_up f g u h (Functions fs is) c s = items_up f g u h is (with_funs fs c) s
-items_up f g u h (Exception x is) c s = items_up f g u h is (with_exn x s c) (drawn x s)
-items_up f g u h (Alias p x is) c s = items_up f g u h is (with_struct p (within x c.env) c) s
-items_up f g u h (Struct p body is) c s =
-    then_up (ev_items f (inside c) body s) (ev_items g (inside c) body s) (λ e s1. ev_items f (with_struct p e.own c) is s1) (λ e s1. ev_items g (with_struct p e.own c) is s1) (items_up f g u h body (inside c) s)
-    (λ e s1. items_up f g u h is (with_struct p e.own c) s1) (λ e s1. items_grows g h is (with_struct p e.own c) s1)
+  pub items_up : (f g : Go) → ((a : Env) (e : Exp) (s : St) → Up (f a e s) (g a e s)) → Growing g → (is : Items) (c : Scope) (s : St) → Up (ev_items f c is s) (ev_items g c is s)
+  items_up f g u h End c s = refl
+  items_up f g u h (Value k p a is) c s =
+      then_up (ev f c.env a s) (ev g c.env a s) (λ v s1. or_next (matched s1.mem (close_pat c.env p) v) (λ bs. ev_items f (with_vars bs c) is s1) (fallen k s1)) (λ v s1. or_next (matched s1.mem (close_pat c.env p) v) (λ bs. ev_items g (with_vars bs c) is s1) (fallen k s1)) (ev_up f g u h a c.env s)
+      (λ v s1. next_up (matched s1.mem (close_pat c.env p) v) (λ bs. ev_items f (with_vars bs c) is s1) (λ bs. ev_items g (with_vars bs c) is s1) (fallen k s1) (fallen k s1) (λ bs. items_up f g u h is (with_vars bs c) s1) (up_same (fallen k s1)))
+      (λ v s1. next_grows (matched s1.mem (close_pat c.env p) v) (λ bs. ev_items g (with_vars bs c) is s1) (fallen k s1) s1 (λ bs. items_grows g h is (with_vars bs c) s1) (fallen_grows _ k s1))
+  items_up f g u h (Functions fs is) c s = items_up f g u h is (with_funs fs c) s
+  items_up f g u h (Exception x is) c s = items_up f g u h is (with_exn x s c) (drawn x s)
+  items_up f g u h (Alias p x is) c s = items_up f g u h is (with_struct p (within x c.env) c) s
+  items_up f g u h (FunctorOf k x body is) c s = items_up f g u h is (with_functor k x body c) s
+  items_up f g u h (Applied p k a is) c s =
+      then_up (applied f (c.env (functor_at k)) (within a c.env) s) (applied g (c.env (functor_at k)) (within a c.env) s) (λ v s1. ev_items f (with_struct p (fields v) c) is s1) (λ v s1. ev_items g (with_struct p (fields v) c) is s1) (applied_up f g u (c.env (functor_at k)) (within a c.env) s)
+      (λ v s1. items_up f g u h is (with_struct p (fields v) c) s1) (λ v s1. items_grows g h is (with_struct p (fields v) c) s1)
+  items_up f g u h (Struct p body is) c s =
+      then_up (ev_items f (inside c) body s) (ev_items g (inside c) body s) (λ e s1. ev_items f (with_struct p e.own c) is s1) (λ e s1. ev_items g (with_struct p e.own c) is s1) (items_up f g u h body (inside c) s)
+      (λ e s1. items_up f g u h is (with_struct p e.own c) s1) (λ e s1. items_grows g h is (with_struct p e.own c) s1)
 
 pub mean_grows : (n : ℕ) → Growing (mean n)
 mean_grows zero a e s = begins_same s.out

@@ -1,14 +1,13 @@
 -- A text stays ordered while it runs.
 use Rattle.std.proofs.Common.{ℕ, zero, suc, inl, inr, List, [], ◌∷◌, ◌++◌, Option, Some, None, Bool, true, false, nat_eq, if◌then◌else◌, slice_get, slice_set, ℤ}
 use Rattle.runs.proofs.Still.{still_close, stills_close}
-use Rattle.runs.specs.Env.{Env, binds, close, close_all, close_funs, close_rules, empty, first, group, hide, names, over, put, var_or}
+use Rattle.runs.specs.Env.{Env, binds, close, close_all, close_funs, close_rules, empty, fields, first, found, found_env, found_or, group, hide, kept, names, over, put, through, var_or}
 use Rattle.runs.specs.Ints.{arithmetic}
-use Rattle.runs.specs.ItemSteps.{bound}
 use Rattle.runs.specs.Names.{Name, same, same_part}
-use Rattle.runs.specs.Ordered.{AllOrdered, OneActive, Ordered, OrderedEnv, OrderedFall, OrderedFuns, OrderedMem, OrderedOpt, OrderedRules, OrderedVal, OrderedVals}
+use Rattle.runs.specs.Ordered.{AllOrdered, OneActive, Ordered, OrderedEnv, OrderedFall, OrderedFound, OrderedFuns, OrderedMem, OrderedOpt, OrderedRules, OrderedVal, OrderedVals}
 use Rattle.runs.specs.Patterns.{both, content, layer, matched, matched_all, no_match, same_const, tagged}
 use Rattle.runs.specs.Primitives.{Calls, Gives, Next, St, Throws, act, as_truth, calls, char_at, char_chr, compare, const_of, find, gives, int_of, length_of, list_of, negated, oper, part_of, prim, prim_one, prim_three, prim_two, pure_val, times_of, truth, truth_of}
-use Rattle.runs.specs.Tree.{Apply, Arith, Assign, Build, Case, Char, CharChr, CharCode, Clo, Compare, Con, Concat, Cons, Const, Datum, Deref, Exn, Exp, Exps, Fail, Fall, Fn, Fun, Funs, Group, Identical, Int, Is, Item, ListOf, Lit, Loc, Make, Nam, NewExn, Nil, NoFuns, NoVals, Node, Not, Op, Oper, Operator, PAny, PCell, PCon, PExn, PLayer, PLit, PMore, PNil, PTup, PVar, Pair, Pat, Pats, Prim, Primitive, PrintString, Raise, Rec, Ref, Rule, Rules, Stop, Str, StringGet, StringLength, StringMake, StringOfInt, StringSub, Try, Tup, Val, Vals, Var}
+use Rattle.runs.specs.Tree.{Absent, Apply, Arith, Assign, Build, Case, Char, CharChr, CharCode, Clo, Compare, Con, Concat, Cons, Const, Datum, Deref, Exn, Exp, Exps, Fail, Fall, Fn, Found, Fun, Funs, Group, Identical, InMod, InStruct, Int, Is, Item, LetMod, ListOf, Lit, Loc, Make, Module, Nam, NewExn, Nil, NoFuns, NoVals, Node, Not, Op, Oper, Operator, PAny, PCell, PCon, PExn, PLayer, PLit, PMore, PNil, PTup, PVar, Pair, Pat, Pats, Prim, Primitive, PrintString, Raise, Rec, Ref, Rule, Rules, Stop, Str, StringGet, StringLength, StringMake, StringOfInt, StringSub, StructOf, There, Try, Tup, Val, Vals, Var}
 
 pub if_opt : (b : Bool) (o p : Option Val) → OrderedOpt o → OrderedOpt p → OrderedOpt (if b then o else p)
 if_opt true o p h g = h
@@ -42,6 +41,25 @@ active_close env Nil h = tt
 active_close env (Cons e es) (inl h) = inl (still_close env e h.0, active_close env es h.1)
 active_close env (Cons e es) (inr h) = inr (stills_close env es h)
 
+pub kept_ordered : (o : Option Val) → OrderedOpt o → OrderedFound (kept o)
+kept_ordered None h = tt
+kept_ordered (Some v) h = h
+
+found_ordered : (f : Found) (o : Option Val) → OrderedFound f → OrderedOpt o → OrderedFound (found_or f o)
+found_ordered Absent o h k = kept_ordered o k
+found_ordered (There v) o h k = h
+
+opt_ordered : (f : Found) → OrderedFound f → OrderedOpt (found f)
+opt_ordered Absent h = tt
+opt_ordered (There v) h = h
+
+pub held_ordered : (e : Name → Found) → ((x : Name) → OrderedFound (e x)) → OrderedEnv (found_env e)
+held_ordered e h = λ x. opt_ordered (e x) (h x)
+
+pub fields_ordered : (v : Val) → OrderedVal v → OrderedEnv (fields v)
+fields_ordered (Module e) h = held_ordered e h
+fields_ordered _ h = empty_ordered
+
 mutual
   pub ordered_close : (env : Env) (e : Exp) → OrderedEnv env → Ordered e → Ordered (close env e)
   ordered_close env (Is w) he h = h
@@ -53,6 +71,10 @@ mutual
   ordered_close env (Node op es) he h = (active_close env es h.0, all_ordered_close env es he h.1)
   ordered_close env (Case f a rs) he h = (h.0, ordered_close env a he h.1, rules_ordered_close env rs he h.2)
   ordered_close env (NewExn y b) he h = ordered_close (hide (same y) env) b (hide_ordered (same y) env he) h
+  ordered_close env (LetMod e p is b) he h = ((λ x. found_ordered (e x) (env x) (h.0 x) (he x)), h.1, ordered_close (hide (through p) env) b (hide_ordered (through p) env he) h.2)
+  ordered_close env (InMod p w b) he h = absurd h
+  ordered_close env (StructOf e is) he h = ((λ x. found_ordered (e x) (env x) (h.0 x) (he x)), h.1)
+  ordered_close env (InStruct w) he h = absurd h
   ordered_close env (Try a rs) he h = (ordered_close env a he h.0, rules_ordered_close env rs he h.1)
 
   pub all_ordered_close : (env : Env) (es : Exps) → OrderedEnv env → AllOrdered es → AllOrdered (close_all env es)

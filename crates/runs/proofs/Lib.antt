@@ -8,10 +8,12 @@ pub mod Keep
 pub mod Follow
 pub mod Rows
 pub mod ItemRows
+pub mod Followed
 pub mod Both
 pub mod Grow
 pub mod After
-pub mod Examples
+pub mod SmallTexts
 pub mod Begin
 pub mod Ends
 pub mod Paths
+pub mod Closed

@@ -1,13 +1,12 @@
 -- What it is for the runs of a machine to follow an evaluation.
 use Rattle.std.proofs.Common.{◌≡◌, ℕ, suc, ◌+◌, ◌≤◌, refl, ap, ◌∙◌, subst, arith}
 use Rattle.runs.proofs.Inevitable.{CanOf, Reaches, Stepping, inev_at, inev_bind, inev_map, later, now}
-use Rattle.runs.specs.ItemSteps.{Lost, Whole, Work, WorkStep}
-use Rattle.runs.specs.Items.{Scope}
 use Rattle.runs.specs.Meaning.{Done, More, Raised, Res, Wrong}
 use Rattle.runs.specs.Ordered.{OrderedMem, OrderedScope, OrderedVal}
 use Rattle.runs.specs.Primitives.{St}
-use Rattle.runs.specs.Steps.{Step}
-use Rattle.runs.specs.Tree.{Exp, Fail, Is, Val}
+use Rattle.runs.specs.Scope.{Scope, held}
+use Rattle.runs.specs.Steps.{Step, WorkStep}
+use Rattle.runs.specs.Tree.{Exp, Fail, Is, Lost, Val, Whole, Work}
 
 -- a machine: its steps, its finished and its raised places, and what is owed of a finished one
 pub record Machine (A T : Type 0) : Type 1 where
@@ -21,7 +20,7 @@ abbrev pub trees : Machine Val Exp
 trees = record { step = Step; fin = λ v. Is v; lost = λ v. Fail v; good = OrderedVal }
 
 abbrev pub works : Machine Scope Work
-works = record { step = WorkStep; fin = λ c. Whole c; lost = λ v. Lost v; good = OrderedScope }
+works = record { step = WorkStep; fin = λ c. Whole (held c); lost = λ v. Lost v; good = OrderedScope }
 
 abbrev pub Inev : (ℕ → Exp → St → Type 0) → ℕ → ℕ → Exp → St → Type 0
 Inev P h k e s = Reaches Step P h k e s
@@ -66,6 +65,10 @@ pub record FollowsOf {A T : Type 0} (M : Machine A T) (n : ℕ) (r : Res A) (e :
 
 abbrev pub Follows : ℕ → Res Val → Exp → St → Type 0
 Follows n r e s = FollowsOf trees n r e s
+
+-- with fewer calls left
+pub follows_down : {A T : Type 0} (M : Machine A T) (n : ℕ) (r : Res A) (e : T) (s : St) → FollowsOf M (suc n) r e s → FollowsOf M n r e s
+follows_down M n r e s f = record { bound = f.bound; comes = λ k. inev_map (λ k1 t s1 g. goal_from M n (suc n) k k r k1 t s1 (omega arith) (omega arith) g) (f.comes k); ordered = f.ordered }
 
 pub wrong_follows : {A T : Type 0} (M : Machine A T) (n : ℕ) (e : T) (s s0 : St) → FollowsOf M n (Wrong s0) e s
 wrong_follows M n e s s0 = record { bound = 0; comes = λ k. now tt; ordered = tt }

@@ -1,19 +1,18 @@
 -- A row of parts follows its evaluation.
-use Rattle.std.proofs.Common.{◌≡◌, ℕ, zero, suc, ◌+◌, ◌≤◌, inl, inr, Option, Some, None, true, refl, sym, ap, ap₂, ◌∙◌, subst, subst₂, arith}
-use Rattle.runs.proofs.Close.{close_bound, close_put, group_dom}
-use Rattle.runs.proofs.Follow.{Going, RulesFollow, act_follows, case_follows, try_follows}
-use Rattle.runs.proofs.Inevitable.{inev_at, inev_bind, inev_map, now}
-use Rattle.runs.proofs.Keep.{act_ordered, all_ordered_close, funs_ordered_close, group_ordered, hide_ordered, over_ordered, pure_ordered, put_ordered, rules_ordered_close}
-use Rattle.runs.proofs.Machines.{CanStep, Follows, Goal, Inev, done_follows, goal_from, goal_later, lost_follows, one_step, trees, wrong_follows}
+use Rattle.std.proofs.Common.{◌≡◌, ℕ, suc, ◌+◌, ◌≤◌, inl, inr, Option, Some, None, true, refl, sym, ap, ap₂, ◌∙◌, subst, subst₂, arith}
+use Rattle.runs.proofs.Follow.{Going, act_follows}
+use Rattle.runs.proofs.Inevitable.{inev_at, inev_bind, inev_map}
+use Rattle.runs.proofs.Keep.{act_ordered, all_ordered_close, pure_ordered}
+use Rattle.runs.proofs.Machines.{CanStep, Follows, Goal, Inev, done_follows, goal_from, goal_later, one_step, trees, wrong_follows}
 use Rattle.runs.proofs.Parallel.{close_plug, fall, parallel, plug, plug_still, plug_weights, settle}
 use Rattle.runs.proofs.Still.{item_of, pure_act, pure_of, result, results, stills_close, weights}
-use Rattle.runs.specs.Env.{Env, close, close_all, close_funs, close_rules, empty, group, hide, names, over, put, var_or}
-use Rattle.runs.specs.Meaning.{Done, Go, More, Raised, Res, Wrong, ev, ev_all, known, mean, perform, then_do}
-use Rattle.runs.specs.Names.{Name, same}
-use Rattle.runs.specs.Ordered.{AllOrdered, AllStill, OneActive, Ordered, OrderedEnv, OrderedMem, OrderedOpt, OrderedRules, OrderedVal, OrderedVals, Still}
-use Rattle.runs.specs.Primitives.{St, act, drawn, finished, gives, next_name, pure, pure_val}
+use Rattle.runs.specs.Env.{Env, close, close_all, var_or}
+use Rattle.runs.specs.Meaning.{Done, Go, More, Raised, Res, Wrong, ev, ev_all, known, perform, then_do}
+use Rattle.runs.specs.Names.{Name}
+use Rattle.runs.specs.Ordered.{AllOrdered, AllStill, OneActive, Ordered, OrderedEnv, OrderedMem, OrderedOpt, OrderedVal, OrderedVals, Still}
+use Rattle.runs.specs.Primitives.{St, act, finished, gives, pure, pure_val}
 use Rattle.runs.specs.Steps.{Step}
-use Rattle.runs.specs.Tree.{Case, Clo, Cons, Datum, Exp, Exps, Fail, Fn, Group, Is, Item, Lit, NewExn, Nil, NoVals, Node, Op, Rule, Rules, Stop, Try, Val, Vals, Var}
+use Rattle.runs.specs.Tree.{Cons, Exp, Exps, Fail, Fn, Is, Item, Lit, Nil, NoVals, Node, Op, Val, Vals, Var}
 
 abbrev of_opts : Option Vals → St → Res Vals
 of_opts None s = Wrong s
@@ -149,7 +148,7 @@ abbrev pub AllFollow : ℕ → Go → Env → Exps → Type 0
 AllFollow n go env Nil = Unit {0}
 AllFollow n go env (Cons e es) = ((s : St) → OrderedMem s.mem → Follows n (ev go env e s) (close env e) s) × AllFollow n go env es
 
-data Row (n : ℕ) (go : Go) (env : Env) (es : Exps) : Type 0 where
+pub data Row (n : ℕ) (go : Go) (env : Env) (es : Exps) : Type 0 where
   Quiet : AllStill es → Row n go env es
   Busy : (pre : Exps) (e : Exp) (post : Exps) → es ≡ plug pre e post → AllStill pre → AllStill post → AllOrdered pre → AllOrdered post → ((s : St) → OrderedMem s.mem → Follows n (ev go env e s) (close env e) s) → Row n go env es
 
@@ -157,7 +156,7 @@ row_more : (n : ℕ) (go : Go) (env : Env) (e : Exp) (es : Exps) → Still e →
 row_more n go env e es h ho (Quiet q) = Quiet (h, q)
 row_more n go env e es h ho (Busy pre a post q hp hq op oq f) = Busy (Cons e pre) a post (ap (Cons e) q) (h, hp) hq (ho, op) oq f
 
-row : (n : ℕ) (go : Go) (env : Env) (es : Exps) → OneActive es → AllOrdered es → AllFollow n go env es → Row n go env es
+pub row : (n : ℕ) (go : Go) (env : Env) (es : Exps) → OneActive es → AllOrdered es → AllFollow n go env es → Row n go env es
 row n go env Nil h ho f = Quiet tt
 row n go env (Cons e es) (inl h) ho f = row_more n go env e es h.0 ho.0 (row n go env es h.1 ho.1 f.1)
 row n go env (Cons e es) (inr h) ho f = Busy Nil e es refl tt h tt ho.1 f.0
@@ -221,7 +220,7 @@ quiet_follows n go op es s (Some vs) rec q hs ho hm =
       ordered = a.ordered;
     }
 
-row_follows : (n : ℕ) (go : Go) (env : Env) (op : Op) (es : Exps) (s : St) → Going n go → OrderedEnv env → AllOrdered es → OrderedMem s.mem → Row (suc n) go env es → Follows (suc n) (then_do (ev_all go env es s) (λ vs s1. perform go (act op vs s1) s1)) (Node op (close_all env es)) s
+pub row_follows : (n : ℕ) (go : Go) (env : Env) (op : Op) (es : Exps) (s : St) → Going n go → OrderedEnv env → AllOrdered es → OrderedMem s.mem → Row (suc n) go env es → Follows (suc n) (then_do (ev_all go env es s) (λ vs s1. perform go (act op vs s1) s1)) (Node op (close_all env es)) s
 row_follows n go env op es s rec he ho hm (Quiet q) =
     subst (λ r. Follows (suc n) (then_do r (λ vs s1. perform go (act op vs s1) s1)) (Node op (close_all env es)) s) (sym (stills_ev go env es s q))
     (quiet_follows n go op (close_all env es) s (results (close_all env es)) rec refl (stills_close env es q) (results_ordered (close_all env es) (all_ordered_close env es he ho)) hm)
@@ -232,49 +231,10 @@ row_follows n go env op es s rec he ho hm (Busy pre e post q hp hq op' oq f) =
     (subst₂ (λ r x. Follows (suc n) (then_do r (λ vs s1. perform go (act op vs s1) s1)) (Node op x) s) (sym (plug_ev go env pre e post s hp hq)) (sym (close_plug env pre e post))
     (busy_follows n go op pre1 (close env e) post1 s (results pre1) (ev go env e s) (results post1) rec refl refl (stills_close env pre hp) (stills_close env post hq) (results_ordered pre1 (all_ordered_close env pre he op')) (results_ordered post1 (all_ordered_close env post he oq)) (f s hm)))
 
-var_follows : (n : ℕ) (y : Name) (o : Option Val) (s : St) → OrderedOpt o → OrderedMem s.mem → Follows n (known o s) (var_or y o) s
+pub var_follows : (n : ℕ) (y : Name) (o : Option Val) (s : St) → OrderedOpt o → OrderedMem s.mem → Follows n (known o s) (var_or y o) s
 var_follows n y None s h m = wrong_follows trees n (Var y) s s
 var_follows n y (Some v) s h m = done_follows trees n v s h m
 
 -- a tree that makes a value at once
-made : (n : ℕ) (e : Exp) (v : Val) (s : St) → CanStep e s → ((t : Exp) (s1 : St) → Step e s t s1 → (t ≡ Is v) × (s1 ≡ s)) → OrderedVal v → OrderedMem s.mem → Follows n (Done v s) e s
+pub made : (n : ℕ) (e : Exp) (v : Val) (s : St) → CanStep e s → ((t : Exp) (s1 : St) → Step e s t s1 → (t ≡ Is v) × (s1 ≡ s)) → OrderedVal v → OrderedMem s.mem → Follows n (Done v s) e s
 made n e v s c only h m = one_step trees n n (Done v s) e (Is v) s s (omega arith) c only (done_follows trees n v s h m)
-
-mutual
-  pub follow : (n : ℕ) (go : Go) → Going n go → (e : Exp) (env : Env) (s : St) → OrderedEnv env → Ordered e → OrderedMem s.mem → Follows (suc n) (ev go env e s) (close env e) s
-  follow n go rec (Is v) env s he h m = done_follows trees (suc n) v s h m
-  follow n go rec (Fail v) env s he h m = lost_follows trees (suc n) v s h m
-  follow n go rec (Lit i) env s he h m = made (suc n) (Lit i) (Datum i) s (Is (Datum i), s, (refl, refl)) (λ t s1 st. st) tt m
-  follow n go rec (Var x) env s he h m = var_follows (suc n) x (env x) s (he x) m
-  follow n go rec (Fn f rs) env s he h m =
-      let v = Clo f (close_rules env rs) in
-      made (suc n) (Fn f (close_rules env rs)) v s (Is v, s, (refl, refl)) (λ t s1 st. st) (h.0, rules_ordered_close env rs he h.1) m
-  follow n go rec (Group fs b) env s he h m =
-      let gs = close_funs (hide (names fs) env) fs in
-      let c = close (hide (names fs) env) b in
-      let r = ev go (over (group gs) env) b s in
-      let hg = group_ordered gs (funs_ordered_close (hide (names fs) env) fs (hide_ordered (names fs) env he) h.0) in
-      one_step trees (suc n) (suc n) r (Group gs c) (close (group gs) c) s s (omega arith) (close (group gs) c, s, (refl, refl)) (λ t s1 st. st)
-      (subst (λ y. Follows (suc n) r y s) (sym (close_bound (names fs) (group gs) env b (group_dom (hide (names fs) env) fs)))
-      (follow n go rec b (over (group gs) env) s (over_ordered (group gs) env hg he) h.1 m))
-  follow n go rec (Node op es) env s he h m = row_follows n go env op es s rec he h.1 m (row (suc n) go env es h.0 h.1 (follow_all n go rec es env he h.1))
-  follow n go rec (Case f a rs) env s he h m = case_follows (suc n) go f (close env a) env rs s (ev go env a s) h.0 (follow_rules n go rec rs env he h.2) (follow n go rec a env s he h.1 m)
-  follow n go rec (NewExn x b) env s he h m =
-      let v = next_name s in
-      let c = close (hide (same x) env) b in
-      one_step trees (suc n) (suc n) (ev go (put x v env) b (drawn x s)) (NewExn x c) (close (put x v empty) c) s (drawn x s) (omega arith) (close (put x v empty) c, drawn x s, (refl, refl)) (λ t s1 st. st)
-      (subst (λ y. Follows (suc n) (ev go (put x v env) b (drawn x s)) y (drawn x s)) (sym (close_put x v env b)) (follow n go rec b (put x v env) (drawn x s) (put_ordered x v env tt he) h m))
-  follow n go rec (Try a rs) env s he h m = try_follows (suc n) go (close env a) env rs s (ev go env a s) (follow_rules n go rec rs env he h.1) (follow n go rec a env s he h.0 m)
-
-  follow_all : (n : ℕ) (go : Go) → Going n go → (es : Exps) (env : Env) → OrderedEnv env → AllOrdered es → AllFollow (suc n) go env es
-  follow_all n go rec Nil env he h = tt
-  follow_all n go rec (Cons e es) env he h = ((λ s m. follow n go rec e env s he h.0 m), follow_all n go rec es env he h.1)
-
-  follow_rules : (n : ℕ) (go : Go) → Going n go → (rs : Rules) (env : Env) → OrderedEnv env → OrderedRules rs → RulesFollow (suc n) go env rs
-  follow_rules n go rec Stop env he h = tt
-  follow_rules n go rec (Rule p b rs) env he h = ((λ bs s hb m. follow n go rec b (over bs env) s (over_ordered bs env hb he) h.0 m), follow_rules n go rec rs env he h.1)
-
--- each run of an ordered tree comes where its meaning says
-pub follows_mean : (n : ℕ) (env : Env) (e : Exp) (s : St) → OrderedEnv env → Ordered e → OrderedMem s.mem → Follows n (mean n env e s) (close env e) s
-follows_mean zero env e s he h m = record { bound = 0; comes = λ k. now (refl, omega arith); ordered = tt }
-follows_mean (suc n) env e s he h m = follow n (mean n) (λ env1 e1 s1 he1 h1 m1. follows_mean n env1 e1 s1 he1 h1 m1) e env s he h m

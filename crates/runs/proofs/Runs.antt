@@ -4,10 +4,9 @@ use Rattle.beh.proofs.Matching.{begins_same, begins_trans}
 use Rattle.beh.specs.Behaviour.{Begins}
 use Rattle.runs.proofs.Inevitable.{RunOf, Stepping}
 use Rattle.runs.specs.Ints.{arithmetic}
-use Rattle.runs.specs.ItemSteps.{Doing, Lost, Open, Rest, Whole, Work, WorkStep}
 use Rattle.runs.specs.Primitives.{Next, St, act, as_truth, body, calls, char_at, char_chr, compare, const_of, find, gives, int_of, length_of, negated, oper, part_of, prim, prim_one, prim_three, prim_two, pure_val, state, times_of, truth_of}
-use Rattle.runs.specs.Steps.{Step, StepIn}
-use Rattle.runs.specs.Tree.{Alias, Apply, Arith, Assign, Build, Case, Char, CharChr, CharCode, Clo, Compare, Con, Concat, Cons, Datum, Deref, End, Exception, Exn, Exp, Exps, Fail, Fall, Fn, Functions, Funs, Group, Identical, Int, Is, Item, ListOf, Lit, Loc, Make, NewExn, Nil, NoVals, Node, Not, Op, Oper, Operator, Pair, Prim, Primitive, PrintString, Raise, Rec, Ref, Rules, Str, StringGet, StringLength, StringMake, StringOfInt, StringSub, Struct, Try, Val, Vals, Value, Var}
+use Rattle.runs.specs.Steps.{Step, StepIn, WorkStep}
+use Rattle.runs.specs.Tree.{Alias, Applied, Apply, Arith, Assign, Build, Case, Char, CharChr, CharCode, Clo, Compare, Con, Concat, Cons, Datum, Deref, Doing, End, Exception, Exn, Exp, Exps, Fail, Fall, Fn, Functions, FunctorOf, Funs, Group, Identical, InMod, InStruct, Int, Is, Item, LetMod, ListOf, Lit, Loc, Lost, Make, Making, NewExn, Nil, NoVals, Node, Not, Op, Open, Oper, Operator, Pair, Prim, Primitive, PrintString, Raise, Rec, Ref, Rest, Rules, Str, StringGet, StringLength, StringMake, StringOfInt, StringSub, Struct, StructOf, Try, Val, Vals, Value, Var, Whole, Work}
 
 begins_eq : (s s1 : St) → s1 ≡ s → Begins s1.out s.out
 begins_eq s s1 e = subst (λ (x : St). Begins x.out s.out) (sym e) (begins_same s.out)
@@ -89,6 +88,14 @@ mutual
   step_out (Case f a rs) s t s1 (inr (inl h)) = begins_eq s s1 h.3
   step_out (Case f a rs) s t s1 (inr (inr h)) = begins_eq s s1 h.3
   step_out (NewExn x b) s t s1 h = subst (λ (x : St). Begins x.out s.out) (sym h.1) (begins_same s.out)
+  step_out (LetMod e p is b) s t s1 h = begins_eq s s1 h.1
+  step_out (InMod p w b) s t s1 (inl h) = work_out w s h.0 s1 h.1
+  step_out (InMod p w b) s t s1 (inr (inl h)) = begins_eq s s1 h.3
+  step_out (InMod p w b) s t s1 (inr (inr h)) = begins_eq s s1 h.3
+  step_out (StructOf e is) s t s1 h = begins_eq s s1 h.1
+  step_out (InStruct w) s t s1 (inl h) = work_out w s h.0 s1 h.1
+  step_out (InStruct w) s t s1 (inr (inl h)) = begins_eq s s1 h.3
+  step_out (InStruct w) s t s1 (inr (inr h)) = begins_eq s s1 h.3
   step_out (Try a rs) s t s1 (inl h) = step_out a s h.0 s1 h.1
   step_out (Try a rs) s t s1 (inr (inl h)) = begins_eq s s1 h.3
   step_out (Try a rs) s t s1 (inr (inr h)) = begins_eq s s1 h.3
@@ -98,21 +105,26 @@ mutual
   parts_out (Cons e es) s fs s1 (inl h) = step_out e s h.0 s1 h.1
   parts_out (Cons e es) s fs s1 (inr h) = parts_out es s h.0 s1 h.1
 
-pub work_out : (w : Work) (s : St) (t : Work) (s1 : St) → WorkStep w s t s1 → Begins s1.out s.out
-work_out (Rest c End) s t s1 h = begins_eq s s1 h.1
-work_out (Rest c (Value f p a is)) s t s1 h = begins_eq s s1 h.1
-work_out (Rest c (Functions fs is)) s t s1 h = begins_eq s s1 h.1
-work_out (Rest c (Exception x is)) s t s1 h = subst (λ (x : St). Begins x.out s.out) (sym h.1) (begins_same s.out)
-work_out (Rest c (Alias p x is)) s t s1 h = begins_eq s s1 h.1
-work_out (Rest c (Struct p body is)) s t s1 h = begins_eq s s1 h.1
-work_out (Doing c f p a is) s t s1 (inl h) = step_out a s h.0 s1 h.1
-work_out (Doing c f p a is) s t s1 (inr (inl h)) = begins_eq s s1 h.3
-work_out (Doing c f p a is) s t s1 (inr (inr h)) = begins_eq s s1 h.3
-work_out (Open c p b is) s t s1 (inl h) = work_out b s h.0 s1 h.1
-work_out (Open c p b is) s t s1 (inr (inl h)) = begins_eq s s1 h.3
-work_out (Open c p b is) s t s1 (inr (inr h)) = begins_eq s s1 h.3
-work_out (Whole c) s t s1 h = absurd h
-work_out (Lost v) s t s1 h = absurd h
+  pub work_out : (w : Work) (s : St) (t : Work) (s1 : St) → WorkStep w s t s1 → Begins s1.out s.out
+  work_out (Rest c End) s t s1 h = begins_eq s s1 h.1
+  work_out (Rest c (Value f p a is)) s t s1 h = begins_eq s s1 h.1
+  work_out (Rest c (Functions fs is)) s t s1 h = begins_eq s s1 h.1
+  work_out (Rest c (Exception x is)) s t s1 h = subst (λ (x : St). Begins x.out s.out) (sym h.1) (begins_same s.out)
+  work_out (Rest c (Alias p x is)) s t s1 h = begins_eq s s1 h.1
+  work_out (Rest c (Struct p body is)) s t s1 h = begins_eq s s1 h.1
+  work_out (Rest c (FunctorOf f x body is)) s t s1 h = begins_eq s s1 h.1
+  work_out (Rest c (Applied p f a is)) s t s1 h = begins_eq s s1 h.3
+  work_out (Making c p a is) s t s1 (inl h) = step_out a s h.0 s1 h.1
+  work_out (Making c p a is) s t s1 (inr (inl h)) = begins_eq s s1 h.3
+  work_out (Making c p a is) s t s1 (inr (inr h)) = begins_eq s s1 h.3
+  work_out (Doing c f p a is) s t s1 (inl h) = step_out a s h.0 s1 h.1
+  work_out (Doing c f p a is) s t s1 (inr (inl h)) = begins_eq s s1 h.3
+  work_out (Doing c f p a is) s t s1 (inr (inr h)) = begins_eq s s1 h.3
+  work_out (Open c p b is) s t s1 (inl h) = work_out b s h.0 s1 h.1
+  work_out (Open c p b is) s t s1 (inr (inl h)) = begins_eq s s1 h.3
+  work_out (Open c p b is) s t s1 (inr (inr h)) = begins_eq s s1 h.3
+  work_out (Whole c) s t s1 h = absurd h
+  work_out (Lost v) s t s1 h = absurd h
 
 -- so along a run
 pub run_out : {T : Type 0} (S : Stepping T) → ((e : T) (s : St) (t : T) (s1 : St) → S e s t s1 → Begins s1.out s.out) → (j : ℕ) (e : T) (s : St) (t : T) (s1 : St) → RunOf S j e s t s1 → Begins s1.out s.out

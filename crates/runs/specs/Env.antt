@@ -1,7 +1,7 @@
 -- Values of variables, and substitution of finished values.
 use Rattle.std.specs.Prelude.{[], ◌∷◌, ◌++◌, Option, Some, None, Bool, true, false, if◌then◌else◌}
-use Rattle.runs.specs.Names.{Part, Name, same_part, same}
-use Rattle.runs.specs.Tree.{Tag, Named, Drawn, Broken, Pat, PAny, PVar, PLit, PTup, PCon, PExn, PCell, PLayer, Pats, PNil, PMore, Exp, Is, Fail, Lit, Var, Fn, Group, Node, Case, NewExn, Try, Exps, Nil, Cons, Rules, Stop, Rule, Funs, NoFuns, Fun, Val, Rec, Nam}
+use Rattle.runs.specs.Names.{Name, Part, same, same_part}
+use Rattle.runs.specs.Tree.{Absent, Broken, Case, Cons, Drawn, Exp, Exps, Fail, Fn, Found, Fun, Funs, Group, InMod, InStruct, Is, LetMod, Lit, Module, Nam, Named, NewExn, Nil, NoFuns, Node, PAny, PCell, PCon, PExn, PLayer, PLit, PMore, PNil, PTup, PVar, Pat, Pats, Rec, Rule, Rules, Stop, StructOf, Tag, There, Try, Val, Var}
 
 -- the values of variables and paths
 abbrev pub Env : Type 0
@@ -36,6 +36,12 @@ reached p b (q ∷ r ∷ x) o = if same_part p q then b (r ∷ x) else o
 abbrev pub under : Part → Env → Env → Env
 under p b env = λ y. reached p b y (env y)
 
+-- the paths of two parts and more that go through the structure p
+abbrev pub through : Part → Name → Bool
+through p [] = false
+through p (q ∷ []) = false
+through p (q ∷ r ∷ x) = same_part p q
+
 -- the values of the structure to which the path leads
 abbrev pub within : Name → Env → Env
 within x env = λ y. env (x ++ y)
@@ -64,6 +70,41 @@ names (Fun g f rs fs) y = if same g y then true else names fs y
 -- the values of a group's functions
 abbrev pub group : Funs → Env
 group fs = λ y. if names fs y then Some (Rec fs y) else None
+
+-- values in a tree, as values of variables, and the other way round
+abbrev pub found : Found → Option Val
+found Absent = None
+found (There v) = Some v
+
+abbrev pub kept : Option Val → Found
+kept None = Absent
+kept (Some v) = There v
+
+abbrev pub found_env : (Name → Found) → Env
+found_env e = λ y. found (e y)
+
+abbrev pub kept_env : Env → Name → Found
+kept_env env = λ y. kept (env y)
+
+abbrev pub nothing : Name → Found
+nothing = λ y. Absent
+
+-- the values of a structure
+abbrev pub fields : Val → Env
+fields (Module e) = found_env e
+fields v = empty
+
+-- the path at which a functor of this path stands
+abbrev pub functor_at : Name → Name
+functor_at f = f ++ [] ∷ []
+
+-- the second values where the first are absent
+abbrev pub found_or : Found → Option Val → Found
+found_or Absent o = kept o
+found_or (There v) o = There v
+
+abbrev pub put_into : (Name → Found) → Env → Name → Found
+put_into e env = λ y. found_or (e y) (env y)
 
 abbrev pub tag_or : Name → Option Val → Tag
 tag_or x None = Named x
@@ -108,6 +149,10 @@ abbrev mutual
   close env (Case f a rs) = Case f (close env a) (close_rules env rs)
   close env (NewExn y b) = NewExn y (close (hide (same y) env) b)
   close env (Try a rs) = Try (close env a) (close_rules env rs)
+  close env (LetMod e p is b) = LetMod (put_into e env) p is (close (hide (through p) env) b)
+  close env (InMod p w b) = InMod p w b
+  close env (StructOf e is) = StructOf (put_into e env) is
+  close env (InStruct w) = InStruct w
 
   pub close_all : Env → Exps → Exps
   close_all env Nil = Nil

@@ -4,6 +4,7 @@ pub mod Env
 pub mod Patterns
 pub mod Ints
 pub mod Primitives
+pub mod Scope
 pub mod Meaning
 pub mod Items
 pub mod Steps

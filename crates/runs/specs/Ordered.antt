@@ -1,10 +1,10 @@
 -- Texts in which at most one part of each row is not still.
 use Rattle.std.specs.Prelude.{◌≡◌, ◌⊎◌, List, [], ◌∷◌, Option, Some, None, true}
-use Rattle.runs.specs.Names.{Name}
-use Rattle.runs.specs.Tree.{Exp, Is, Fail, Lit, Var, Fn, Group, Node, Case, NewExn, Try, Fall, Stuck, Raises, Exps, Nil, Cons, Rules, Stop, Rule, Funs, NoFuns, Fun, Val, Datum, Tup, Con, Clo, Rec, Loc, Nam, Exn, Prim, Vals, NoVals, Item, Items, End, Value, Functions, Exception, Alias, Struct}
 use Rattle.runs.specs.Env.{Env}
-use Rattle.runs.specs.Primitives.{pure}
-use Rattle.runs.specs.Items.{Scope}
+use Rattle.runs.specs.Names.{Name}
+use Rattle.runs.specs.Primitives.{body, pure}
+use Rattle.runs.specs.Scope.{Scope}
+use Rattle.runs.specs.Tree.{Absent, Alias, Applied, Case, Clo, Con, Cons, Datum, End, Exception, Exn, Exp, Exps, Fail, Fall, Fn, Found, Fun, Functions, Functor, FunctorOf, Funs, Group, InMod, InStruct, Is, Item, Items, LetMod, Lit, Loc, Module, Nam, NewExn, Nil, NoFuns, NoVals, Node, Prim, Raises, Rec, Rule, Rules, Stop, Struct, StructOf, Stuck, There, Try, Tup, Val, Vals, Value, Var}
 
 abbrev mutual
   -- a tree that only makes its value: a literal, a name, a function, or a tuple, a constructor or a list of such
@@ -38,6 +38,11 @@ abbrev mutual
   Ordered (Case f a rs) = OrderedFall f × Ordered a × OrderedRules rs
   Ordered (NewExn x b) = Ordered b
   Ordered (Try a rs) = Ordered a × OrderedRules rs
+  Ordered (LetMod e p is b) = ((x : Name) → OrderedFound (e x)) × OrderedItems is × Ordered b
+  -- on its way it stands in runs alone
+  Ordered (InMod p w b) = ⊥
+  Ordered (StructOf e is) = ((x : Name) → OrderedFound (e x)) × OrderedItems is
+  Ordered (InStruct w) = ⊥
 
   pub AllOrdered : Exps → Type 0
   AllOrdered Nil = Unit {0}
@@ -62,6 +67,8 @@ abbrev mutual
   OrderedVal (Nam k) = Unit {0}
   OrderedVal (Exn k vs) = OrderedVals vs
   OrderedVal (Prim p vs) = OrderedVals vs
+  OrderedVal (Module e) = (x : Name) → OrderedFound (e x)
+  OrderedVal (Functor e x is) = ((y : Name) → OrderedFound (e y)) × OrderedItems is
 
   pub OrderedVals : Vals → Type 0
   OrderedVals NoVals = Unit {0}
@@ -70,6 +77,21 @@ abbrev mutual
   pub OrderedFall : Fall → Type 0
   OrderedFall Stuck = Unit {0}
   OrderedFall (Raises v) = OrderedVal v
+
+  pub OrderedFound : Found → Type 0
+  OrderedFound Absent = Unit {0}
+  OrderedFound (There v) = OrderedVal v
+
+  -- of a row of items
+  pub OrderedItems : Items → Type 0
+  OrderedItems End = Unit {0}
+  OrderedItems (Value f p a is) = OrderedFall f × Ordered a × OrderedItems is
+  OrderedItems (Functions fs is) = OrderedFuns fs × OrderedItems is
+  OrderedItems (Exception x is) = OrderedItems is
+  OrderedItems (Alias p x is) = OrderedItems is
+  OrderedItems (Struct p body is) = OrderedItems body × OrderedItems is
+  OrderedItems (FunctorOf f x body is) = OrderedItems body × OrderedItems is
+  OrderedItems (Applied p f a is) = OrderedItems is
 
 -- of what memory holds
 abbrev pub OrderedMem : List Val → Type 0
@@ -87,12 +109,3 @@ OrderedEnv env = (x : Name) → OrderedOpt (env x)
 -- of the values in a scope
 abbrev pub OrderedScope : Scope → Type 0
 OrderedScope c = OrderedEnv c.env × OrderedEnv c.own
-
--- of a row of items
-abbrev pub OrderedItems : Items → Type 0
-OrderedItems End = Unit {0}
-OrderedItems (Value f p a is) = OrderedFall f × Ordered a × OrderedItems is
-OrderedItems (Functions fs is) = OrderedFuns fs × OrderedItems is
-OrderedItems (Exception x is) = OrderedItems is
-OrderedItems (Alias p x is) = OrderedItems is
-OrderedItems (Struct p body is) = OrderedItems body × OrderedItems is

@@ -6,7 +6,7 @@ use Rattle.runs.specs.Tree.{Exp, Is, Fail, Val, Exn, Items}
 use Rattle.runs.specs.Primitives.{St}
 use Rattle.runs.specs.Meaning.{Res, Done, Raised, More, Wrong}
 use Rattle.runs.specs.Steps.{Step}
-use Rattle.runs.specs.Items.{Scope}
+use Rattle.runs.specs.Scope.{Scope, held}
 use Rattle.runs.specs.ItemSteps.{Work, Rest, Whole, Lost, WorkStep}
 
 abbrev pub part_or_none : Option Part → Part
@@ -65,4 +65,4 @@ seen_config c = seen_work c.work c.st
 
 -- a row of items, before it runs
 abbrev pub at_start : Scope → Items → St → Config
-at_start c is s = record { work = Rest c is; st = s }
+at_start c is s = record { work = Rest (held c) is; st = s }

@@ -117,6 +117,14 @@ mutual
     NewExn : Name → Exp → Exp
     -- try a with p -> b | ..; it passes on what no rule takes
     Try : Exp → Rules → Exp
+    -- let module X = struct .. end in b, with the values that were put into the structure; a text has none there
+    LetMod : (Name → Found) → Part → Items → Exp → Exp
+    -- the same on its way
+    InMod : Part → Work → Exp → Exp
+    -- struct .. end, the body of a functor that is applied, with the values that were put into it
+    StructOf : (Name → Found) → Items → Exp
+    -- the same on its way
+    InStruct : Work → Exp
 
   -- no step, or an exception
   pub data Fall : Type 0 where
@@ -152,6 +160,10 @@ mutual
     Exn : ℕ → Vals → Val
     -- a predefined function, with the arguments that it has so far
     Prim : Primitive → Vals → Val
+    -- the values of a structure, by their paths
+    Module : (Name → Found) → Val
+    -- a functor: the values that were put into its body, its parameter and its body
+    Functor : (Name → Found) → Part → Items → Val
 
   pub data Vals : Type 0 where
     NoVals : Vals
@@ -170,3 +182,31 @@ mutual
     Alias : Part → Name → Items → Items
     -- module X = struct .. end
     Struct : Part → Items → Items → Items
+    -- module F (X : ..) () = struct .. end
+    FunctorOf : Part → Part → Items → Items → Items
+    -- module X = F (A) ()
+    Applied : Part → Name → Name → Items → Items
+
+  -- a value, if there is one
+  pub data Found : Type 0 where
+    Absent : Found
+    There : Val → Found
+
+  -- the finished values that can be read at a place on its way, and those of the structure that is being made there
+  pub data Held : Type 0 where
+    Hold : (Name → Found) → (Name → Found) → Held
+
+  -- a row of items on its way
+  pub data Work : Type 0 where
+    -- items still to do, where these values are finished
+    Rest : Held → Items → Work
+    -- let p = a on its way, with the values of the scope put in, and the items after it
+    Doing : Held → Fall → Pat → Exp → Items → Work
+    -- module X = struct .. end on its way, and the items after it
+    Open : Held → Part → Work → Items → Work
+    -- module X = F (A) () on its way, and the items after it
+    Making : Held → Part → Exp → Items → Work
+    -- all is done
+    Whole : Held → Work
+    -- an exception left an item
+    Lost : Val → Work

@@ -1,8 +1,7 @@
 ghost use Rattle.std.specs.Prelude.{◌≡◌, ℕ, suc, List, [], ◌∷◌, pos, codes, Option, Some, None};
 ghost use Rattle.beh.specs.Agree.{Agree, GoesOn};
 ghost use Rattle.beh.specs.Behaviour.{Ended, Raised};
-ghost use Rattle.runs.specs.Env.{Env, empty};
-ghost use Rattle.runs.specs.Examples.{hello, hidden, path_read, shadowed, two_prints, unit_part};
+ghost use Rattle.runs.specs.Env.{Env, close, empty, over};
 ghost use Rattle.runs.specs.Forms.{text_scope, var};
 ghost use Rattle.runs.specs.Items.{Scope, after, ev_items, mean_items};
 ghost use Rattle.runs.specs.Meaning as meaning;
@@ -32,6 +31,11 @@ pub fn rows_go_on()
     ensures { (c : Scope) (is : Items) (s : St) → GoesOn (λ n. behaviour (mean_items n c is s)) }
 {}
 
+/// A tree into which values were put means what it means where they are read.
+pub fn put_in_or_read()
+    ensures { (n : ℕ) (e : Exp) (a b : Env) (s : St) → mean n b (close a e) s ≡ mean n (over a b) e s }
+{}
+
 /// Of two rows one after another, the second is evaluated in the scope that the first one leaves.
 pub fn one_after_another()
     ensures { (go : Go) (is js : Items) (c : Scope) (s : St) → ev_items go c (after is js) s ≡ then_do (ev_items go c is s) (λ d t. ev_items go d js t) }
@@ -50,34 +54,4 @@ pub fn raises_in_each_order()
 /// Where a text begins, its values are ordered.
 pub fn begins_ordered()
     ensures { OrderedScope text_scope }
-{}
-
-/// A row of two prints does not agree with its meaning: the second part may print first.
-pub fn two_prints_differ()
-    ensures { Agree (λ n. behaviour (mean_items n text_scope two_prints start)) ConfigStep seen_config (at_start text_scope two_prints start) → ⊥ }
-{}
-
-/// A structure calls the function of an earlier one by its path, and writes the text.
-pub fn hello_writes()
-    ensures { (t : List ℕ) (n : ℕ) → behaviour (mean_items (suc (suc n)) text_scope (hello t) start) ≡ shown (written t start) Ended }
-{}
-
-/// After it the value of the structure stands at its path.
-pub fn hello_has()
-    ensures { (t : List ℕ) (n : ℕ) → (c : Scope) × (s : St) × (mean_items (suc (suc n)) text_scope (hello t) start ≡ Done c s) × (c.own (unit_part ∷ codes "x" ∷ []) ≡ Some (Datum (Int (pos 1)))) }
-{}
-
-/// A value of a structure is read by its path from a later one.
-pub fn path_is_read()
-    ensures { (n : ℕ) → (c : Scope) × (s : St) × (mean_items (suc n) text_scope path_read start ≡ Done c s) × (c.own (codes "B" ∷ codes "y" ∷ []) ≡ Some (Datum (Str (codes "a")))) }
-{}
-
-/// Of two values of one name the later one counts.
-pub fn later_value_counts()
-    ensures { (n : ℕ) → (c : Scope) × (s : St) × (mean_items (suc n) text_scope shadowed start ≡ Done c s) × (c.own (var (codes "x")) ≡ Some (Datum (Int (pos 2)))) }
-{}
-
-/// A structure hides the values of an earlier one of its name.
-pub fn older_structure_is_hidden()
-    ensures { (n : ℕ) → (c : Scope) × (s : St) × (mean_items (suc n) text_scope hidden start ≡ Done c s) × (c.env (codes "A" ∷ codes "x" ∷ []) ≡ None) }
 {}

@@ -1,7 +1,7 @@
 //! Names, paths, places, rows, literals and refusals: the words that every layer speaks.
 //!
 //! Source: nothing; this crate stands lowest. Result: the types that trees and errors are made of.
-//! Rule: codes and their texts are this project's own; places count as in the Definition's section 2.
+//! Rule: codes and their texts are this project's own; places count bytes and line feeds, from 1.
 //! Main contract: each collection is the list of its items, and each code has its number and its text.
 //! Knows nothing of: grammars, types, files.
 #![tactic(auto)]

@@ -1,0 +1,14 @@
+pub mod Grown
+pub mod Put
+pub mod Taken
+pub mod Acts
+pub mod Scopes
+pub mod Sound
+pub mod Rowed
+pub mod Instances
+pub mod RowTyped
+pub mod Dropped
+pub mod Equal
+pub mod Basics
+pub mod TypedTexts
+pub mod Quotient

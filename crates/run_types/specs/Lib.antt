@@ -1,0 +1,9 @@
+pub mod Types
+pub mod Safe
+pub mod TypedItems
+pub mod Written
+pub mod Complete
+pub mod Equality
+pub mod Basic
+pub mod TypedTexts
+pub mod Quotient

@@ -1,0 +1,7 @@
+pub mod Command
+pub mod Lines
+pub mod Listing
+pub mod Outcome
+pub mod Status
+pub mod Telling
+pub mod Translating
