@@ -1,4 +1,5 @@
 pub mod Command
+pub mod Complete
 pub mod Lines
 pub mod Listing
 pub mod Outcome

@@ -15,6 +15,7 @@ mod lines;
 mod list;
 mod run;
 mod tell;
+mod tests;
 mod translate;
 
 use end::{End, status};
@@ -22,10 +23,9 @@ use lines::USAGE;
 use run::run;
 use src_io::{FileSources, StdSink};
 use std::alloc::Global;
-use std::env;
-use std::io;
 use std::process::ExitCode;
 use std::rt::Env;
+use std::{env, io};
 use tell::{tell, tell_no_memory};
 
 /// The words of the command. Words that are no text are no command.

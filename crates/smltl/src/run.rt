@@ -1,5 +1,10 @@
-ghost use Rattle.std.specs.Prelude.{◌≡◌, ℕ, List, map, string_bytes};
+ghost use Rattle.std.specs.Prelude.{◌≡◌, ◌⊎◌, ℕ, List, map, string_bytes, Some};
 ghost use Rattle.src_io.specs.Written.{Appends};
+ghost use Rattle.src_io.specs.Faults.{Rose};
+ghost use Rattle.src_io.specs.Holding.{Holding};
+ghost use Rattle.smltl.specs.declared.end.End.{End};
+ghost use Rattle.smltl.specs.declared.end.End.TheVariants as end_is;
+ghost use Rattle.smltl.specs.Complete.{IsGood};
 ghost use Rattle.smltl.specs.Outcome.{Outcome, Counts};
 
 use crate::command::list_word;
@@ -50,3 +55,12 @@ pub fn run<S: Sources, O: Sink, N: Sink>(
         Err(Stop::Memory) => tell_no_memory(notes),
     }
 }
+
+/// The law that what has to succeed does: where words, list and sources are good, as the devices tell, and no count of
+/// faults rises, a call of `run` ends with Done, or there is no memory.
+pub fn completeness()
+    ensures { (words : List (List ℕ)) (h : Holding) (answer : End) (grown said : List ℕ) (src src2 out out2 notes notes2 : ℕ)
+        → IsGood words h → Outcome words (Some h) answer grown said → Counts answer src src2 out out2 notes notes2
+        → (Rose src src2 → ⊥) → (Rose out out2 → ⊥) → (Rose notes notes2 → ⊥)
+        → (answer ≡ end_is.Done) ⊎ (answer ≡ end_is.NoMemory) }
+{}

@@ -1,0 +1,6 @@
+val e = ""
+val s = "plain text, 'quotes' and (* no comment *)"
+val q = "a \"quoted\" word"
+val b = "one \\ backslash"
+val l = "two\nlines\n"
+val _ = print "\"done\" \\o/\n"
