@@ -15,6 +15,7 @@ mod lines;
 mod list;
 mod run;
 mod tell;
+#[cfg(test)]
 mod tests;
 mod translate;
 
