@@ -1,4 +1,0 @@
-pub mod Fixities
-pub mod Grouping
-pub mod Reading
-pub mod Resolution

@@ -1,6 +1,0 @@
-pub mod Trees
-pub mod Cells
-pub mod Steps
-pub mod Walking
-pub mod Stores
-pub mod Building
