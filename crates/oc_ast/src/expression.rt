@@ -1,0 +1,117 @@
+use crate::{APat, ATy, MSig, OTy, OcLit, Pat, TDef};
+use tl_text::{Boxed, List, Name, Path};
+
+/// A whole text (the manual, section 11.11: the definitions of a structure).
+#[derive(Drop)]
+pub enum Text {
+    /// The items, one after another.
+    All(List<Item>),
+}
+
+/// An item of a structure or of a text.
+#[cycle(expressions)]
+#[derive(Drop)]
+pub enum Item {
+    /// `let p = e`.
+    Let(Pat, Simple),
+    /// `let rec f = fun .. and g = fun ..`. The row has one binding at least.
+    LetRec(List<RBind>),
+    /// `type t = .. and u = ..`. The row has one definition at least.
+    Types(List<TDef>),
+    /// `exception E`, `exception E of t`.
+    Exn(Name, Option<ATy>),
+    /// `exception E = M.F`.
+    ExnAs(Name, Path),
+    /// `module M = ..`.
+    Module(Name, Boxed<MExp>),
+    /// `module M : sig .. end = ..`.
+    Sealed(Name, MSig, Boxed<MExp>),
+    /// `module F_F (X : sig .. end) () = ..`.
+    Functor(Name, Name, MSig, Boxed<MExp>),
+}
+
+/// A recursive binding. Its right side is a `Fun`.
+#[cycle(expressions)]
+#[derive(Drop)]
+pub enum RBind {
+    /// `f = fun ..`.
+    Plain(Name, Simple),
+    /// `f : 'a 'b . t = fun ..`. The row has one type variable at least.
+    Poly(Name, List<Name>, OTy, Simple),
+}
+
+/// A module expression (the manual, section 11.11).
+#[cycle(expressions)]
+#[derive(Drop)]
+pub enum MExp {
+    /// `M.N`.
+    MAt(Path),
+    /// `struct .. end`.
+    Struct(List<Item>),
+    /// `F_F (M) ()`.
+    Apply(Path, Path),
+    /// `(M : sig .. end)`.
+    MSeal(Boxed<MExp>, MSig),
+}
+
+/// An expression with at most one thing to do (the manual, section 11.7).
+#[cycle(expressions)]
+#[derive(Drop)]
+pub enum Simple {
+    /// `x`, an expression that needs no parentheses.
+    One(Atom),
+    /// `f x`. The first is no `Con`.
+    Call(Boxed<Atom>, Boxed<Atom>),
+    /// `A x`.
+    Build(Path, Boxed<Atom>),
+    /// `a + b`. The operator stands between the two, as in the text.
+    Oper(Boxed<Atom>, Name, Boxed<Atom>),
+    /// `fun p -> e`.
+    Fun(Boxed<APat>, Boxed<Full>),
+}
+
+/// An expression.
+#[cycle(expressions)]
+#[derive(Drop)]
+pub enum Full {
+    /// `f x`.
+    Is(Simple),
+    /// `let p = e in f`.
+    LetIn(Boxed<Pat>, Boxed<Simple>, Boxed<Full>),
+    /// `let rec f = fun .. and g = fun .. in e`. The row has one binding at least.
+    LetRecIn(List<RBind>, Boxed<Full>),
+    /// `let module M = struct .. end in e`.
+    LetMod(Name, List<Item>, Boxed<Full>),
+    /// `let exception E of t in e`.
+    LetExn(Name, Option<ATy>, Boxed<Full>),
+    /// `if a then b else c`.
+    If(Boxed<Atom>, Boxed<Atom>, Boxed<Atom>),
+    /// `match a with | p -> b | q -> c`. The row has one arm at least.
+    Match(Boxed<Atom>, List<(Pat, Atom)>),
+    /// `try a with | p -> b | q -> c`. The row has one arm at least.
+    Try(Boxed<Atom>, List<(Pat, Atom)>),
+    /// `while a do e done`.
+    While(Boxed<Atom>, Boxed<Full>),
+    /// `a ; e`.
+    Then(Boxed<Atom>, Boxed<Full>),
+}
+
+/// An expression that may stand as an argument.
+#[cycle(expressions)]
+#[derive(Drop)]
+pub enum Atom {
+    /// `5`, `(-5)`, `'c'`, `"s"`.
+    Const(OcLit),
+    /// `x`, `M.x`; the path of the one name `!` is written `(!)`.
+    Val(Path),
+    /// `A`, `M.A`, `true`.
+    Con(Path),
+    /// `()`.
+    Unit,
+    /// `(e)`. It holds no bare atom.
+    Paren(Boxed<Full>),
+    /// `(a, b)`. The row has one expression at least.
+    Tuple(Boxed<Atom>, List<Atom>),
+    /// `[]`, `[a; b]`.
+    Items(List<Atom>),
+}

@@ -1,0 +1,11 @@
+pub mod Marks
+pub mod Says
+pub mod Decode
+pub mod Names
+pub mod ReadsTypes
+pub mod ReadsPatterns
+pub mod ReadsSignatures
+pub mod StartsExpressions
+pub mod FormsExpressions
+pub mod ReadsExpressions
+pub mod OneText

@@ -1,0 +1,5 @@
+pub mod Tests
+pub mod Literals
+pub mod RunKinds
+pub mod Longest
+pub mod Lexing

@@ -1,0 +1,20 @@
+//! Types without derived forms.
+
+use crate::name::{Ident, Label, LongIdent};
+use tl_text::{Boxed, List, Place};
+
+/// A type without derived forms.
+#[cycle(bare_ty)]
+#[derive(Drop)]
+pub enum BareTy {
+    /// `'a`
+    Tyvar(Place, Ident),
+    /// `{a : t, b : u}`
+    TFields(Place, List<(Label, BareTy)>),
+    /// `(t, u) c`
+    TCon(Place, List<BareTy>, LongIdent),
+    /// `t -> u`
+    Arrow(Place, Boxed<BareTy>, Boxed<BareTy>),
+    /// `(t)`
+    TParen(Place, Boxed<BareTy>),
+}

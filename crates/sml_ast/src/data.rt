@@ -1,0 +1,31 @@
+//! Bindings of types, datatypes and exceptions.
+
+use crate::name::{Ident, LongIdent, Tyvars};
+use crate::ty::Ty;
+use tl_text::{List, Place};
+
+/// `'a t = u`
+pub type TyBind = (Tyvars, Ident, Ty);
+
+/// DatBind, a binding of a datatype.
+#[derive(Drop)]
+pub enum DatBind {
+    /// `'a t = C of u | op ++ of v`: each constructor with whether `op` is there.
+    Data(Place, Tyvars, Ident, List<(bool, Ident, Option<Ty>)>),
+}
+
+/// DatDesc, a description of a datatype in a signature.
+#[derive(Drop)]
+pub enum DatDesc {
+    /// `'a t = C of u | D`
+    Desc(Place, Tyvars, Ident, List<(Ident, Option<Ty>)>),
+}
+
+/// ExBind, a binding of an exception.
+#[derive(Drop)]
+pub enum ExBind {
+    /// `E of t`, `op E of t`
+    NewExn(Place, bool, Ident, Option<Ty>),
+    /// `E = F`, `op E = op F`
+    SameExn(Place, bool, Ident, bool, LongIdent),
+}

@@ -1,0 +1,4 @@
+pub mod Fixities
+pub mod Grouping
+pub mod Reading
+pub mod Resolution

@@ -1,0 +1,15 @@
+pub mod Bodies
+pub mod Comments
+pub mod Digits
+pub mod Escapes
+pub mod Ids
+pub mod Lexed
+pub mod Lists
+pub mod Moves
+pub mod NumberFronts
+pub mod Numbers
+pub mod Parts
+pub mod Runs
+pub mod Symbols
+pub mod Unique
+pub mod Words

@@ -1,0 +1,9 @@
+pub mod Bytes
+pub mod Comments
+pub mod Marks
+pub mod Literals
+pub mod Names
+pub mod Numbers
+pub mod Places
+pub mod Steps
+pub mod Texts

@@ -1,0 +1,14 @@
+pub mod Sets
+pub mod Undo
+pub mod Tasks
+pub mod Joined
+pub mod Bound
+pub mod Turns
+pub mod Walks
+pub mod Ranks
+pub mod Extended
+pub mod Sounds
+pub mod Growth
+pub mod KindOf
+pub mod Building
+pub mod Levels

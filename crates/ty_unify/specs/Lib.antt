@@ -1,0 +1,6 @@
+pub mod Trees
+pub mod Cells
+pub mod Steps
+pub mod Walking
+pub mod Stores
+pub mod Building
