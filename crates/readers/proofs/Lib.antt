@@ -18,3 +18,12 @@ pub mod Height
 pub mod First
 pub mod Ground
 pub mod Given
+pub mod Bundle
+pub mod Combine
+pub mod Choose
+pub mod Repeat
+pub mod Levels
+pub mod Grow
+pub mod Once
+pub mod Beside
+pub mod Operators

@@ -6,3 +6,4 @@ pub mod WholeText
 pub mod Infix
 pub mod Given
 pub mod Height
+pub mod Forms
