@@ -1,0 +1,5 @@
+pub mod Bindings
+pub mod Names
+pub mod Patterns
+pub mod Types
+pub mod Withtype
