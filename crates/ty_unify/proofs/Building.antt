@@ -18,7 +18,7 @@ use Rattle.ty_unify.specs.declared.cell.Tag.{Tag}
 use Rattle.ty_unify.specs.declared.cell.Tag.TheVariants as tag
 use Rattle.std.specs.Prelude.{slice_index_or}
 use Rattle.ty_unify.specs.Trees.{Tree, Head, Atom, Fork, Record, Field, Named, Argument, Admits}
-use Rattle.ty_unify.specs.Cells.{cell_at, head_of, ShapeHolds, Held, Bounded, Solves, ShapeOrdered, ShapeLabelled, TagIn, tag_sort, rest_sort, sort_at}
+use Rattle.ty_unify.specs.Cells.{cell_at, head_of, ShapeHolds, Held, Bounded, Solves, ShapeOrdered, ShapeLabelled, TagIn, IsAlone, HasParts, tag_sort, rest_sort, sort_at}
 use Rattle.ty_unify.specs.Stores.{Known, Sound, Agree}
 use Rattle.ty_unify.specs.Building.{NodeIn, Extends, Built, Made, LabelMade, RowMade, under, more_fields, more_args, fields_tree, named_tree}
 use Rattle.ty_unify.proofs.Growth.{sound_put, sort_before, sort_last, with_tree, with_other, with_here, solves_same, each_put, each_before, each_last, bare_result}
@@ -80,7 +80,7 @@ extends_put l c x s small o lab some =
     bare_bound (Const h) t = tt
     bare_bound (Pair h a b) t = tt
 
-pub put_pair : (l : List Label) (c : List Cell) (t : Tag) (a b : ℕ) → Sound l c → length (c ++ record { shape = Pair t a b; equal = false } ∷ []) ≤ 2 ^ 32 → TagIn (length l) t
+pub put_pair : (l : List Label) (c : List Cell) (t : Tag) (a b : ℕ) → Sound l c → length (c ++ record { shape = Pair t a b; equal = false } ∷ []) ≤ 2 ^ 32 → TagIn (length l) t × HasParts t
     → NodeIn c a → b < length c → sort_at c b ≡ rest_sort t → Extends l l c (c ++ record { shape = Pair t a b; equal = false } ∷ [])
 put_pair l c t a b s small lab ha lb sb =
     let n = length c in
@@ -97,7 +97,7 @@ built_pair l c t a b =
       value = λ θ h. (each_last (λ y i. Held l Admits Admits y i θ) c d h.holds).0;
     }
 
-pub put_const : (l : List Label) (c : List Cell) (t : Tag) → Sound l c → length (c ++ record { shape = Const t; equal = false } ∷ []) ≤ 2 ^ 32 → TagIn (length l) t → Extends l l c (c ++ record { shape = Const t; equal = false } ∷ [])
+pub put_const : (l : List Label) (c : List Cell) (t : Tag) → Sound l c → length (c ++ record { shape = Const t; equal = false } ∷ []) ≤ 2 ^ 32 → TagIn (length l) t × IsAlone t → Extends l l c (c ++ record { shape = Const t; equal = false } ∷ [])
 put_const l c t s small lab = extends_put l c (Const t) s small tt lab (λ θ. (Atom (head_of l t), with_here θ (length c) (Atom (head_of l t))))
 
 pub built_const : (l : List Label) (c : List Cell) (t : Tag) → Built l (c ++ record { shape = Const t; equal = false } ∷ []) (length c) (tag_sort t) (λ θ. Atom (head_of l t))
@@ -124,14 +124,14 @@ head_kept l x tag.LastArgument h = refl
 shape_back : (l : List Label) (x : Label) (s : Shape) (i : ℕ) (θ : ℕ → Tree) → ShapeLabelled (length l) s → ShapeHolds (l ++ x ∷ []) s i θ → ShapeHolds l s i θ
 shape_back l x Open i θ h k = tt
 shape_back l x (Same j q) i θ h k = k
-shape_back l x (Const t) i θ h k = k ∙ ap Atom (head_kept l x t h)
-shape_back l x (Pair t a b) i θ h k = k ∙ ap (λ u. Fork u (θ a) (θ b)) (head_kept l x t h)
+shape_back l x (Const t) i θ h k = k ∙ ap Atom (head_kept l x t h.0)
+shape_back l x (Pair t a b) i θ h k = k ∙ ap (λ u. Fork u (θ a) (θ b)) (head_kept l x t h.0)
 
 shape_forth : (l : List Label) (x : Label) (s : Shape) (i : ℕ) (θ : ℕ → Tree) → ShapeLabelled (length l) s → ShapeHolds l s i θ → ShapeHolds (l ++ x ∷ []) s i θ
 shape_forth l x Open i θ h k = tt
 shape_forth l x (Same j q) i θ h k = k
-shape_forth l x (Const t) i θ h k = k ∙ ap Atom (sym (head_kept l x t h))
-shape_forth l x (Pair t a b) i θ h k = k ∙ ap (λ u. Fork u (θ a) (θ b)) (sym (head_kept l x t h))
+shape_forth l x (Const t) i θ h k = k ∙ ap Atom (sym (head_kept l x t h.0))
+shape_forth l x (Pair t a b) i θ h k = k ∙ ap (λ u. Fork u (θ a) (θ b)) (sym (head_kept l x t h.0))
 
 tag_more : (n m : ℕ) (t : Tag) → n ≤ m → TagIn n t → TagIn m t
 tag_more n m tag.Arrow l h = tt
@@ -146,8 +146,8 @@ tag_more n m tag.LastArgument l h = tt
 labelled_more : (n m : ℕ) (s : Shape) → n ≤ m → ShapeLabelled n s → ShapeLabelled m s
 labelled_more n m Open l h = tt
 labelled_more n m (Same j k) l h = tt
-labelled_more n m (Const t) l h = tag_more n m t l h
-labelled_more n m (Pair t a b) l h = tag_more n m t l h
+labelled_more n m (Const t) l h = (tag_more n m t l h.0, h.1)
+labelled_more n m (Pair t a b) l h = (tag_more n m t l h.0, h.1)
 
 pub sound_label : (l : List Label) (x : Label) (c : List Cell) → Sound l c → Sound (l ++ x ∷ []) c
 sound_label l x c s =
@@ -176,7 +176,7 @@ pub sound_bare : (l : List Label) (c : List Cell) (x : Shape) → Sound l c → 
 sound_bare l c x s small o lab = sound_put l c (record { shape = x; equal = false }) s small o lab (λ B t. bare_result x B t)
 
 -- the store that `add_pair` leaves
-pub made_pair : (l : List Label) (c new : List Cell) (t : Tag) (a b node : ℕ) → Sound l c → new ≡ c ++ record { shape = Pair t a b; equal = false } ∷ [] → length new ≤ 2 ^ 32 → node ≡ length c → TagIn (length l) t
+pub made_pair : (l : List Label) (c new : List Cell) (t : Tag) (a b node : ℕ) → Sound l c → new ≡ c ++ record { shape = Pair t a b; equal = false } ∷ [] → length new ≤ 2 ^ 32 → node ≡ length c → TagIn (length l) t × HasParts t
     → NodeIn c a → b < length c → sort_at c b ≡ rest_sort t
     → Made (record { cells = c; labels = l }) (record { cells = new; labels = l }) node (tag_sort t) (λ θ. Fork (head_of l t) (θ a) (θ b))
 made_pair l c new t a b node s e small d lab ha lb sb =
@@ -188,11 +188,11 @@ made_pair l c new t a b node s e small d lab ha lb sb =
     subst (λ n. Made (record { cells = c; labels = l }) (record { cells = n; labels = l }) node (tag_sort t) (λ θ. Fork (head_of l t) (θ a) (θ b))) (sym e)
     (subst (λ n. Made (record { cells = c; labels = l }) (record { cells = put; labels = l }) n (tag_sort t) (λ θ. Fork (head_of l t) (θ a) (θ b))) (sym d) m)
 
-pub sound_pair : (l : List Label) (c new : List Cell) (t : Tag) (a b : ℕ) → Sound l c → new ≡ c ++ record { shape = Pair t a b; equal = false } ∷ [] → length new ≤ 2 ^ 32 → TagIn (length l) t
+pub sound_pair : (l : List Label) (c new : List Cell) (t : Tag) (a b : ℕ) → Sound l c → new ≡ c ++ record { shape = Pair t a b; equal = false } ∷ [] → length new ≤ 2 ^ 32 → TagIn (length l) t × HasParts t
     → NodeIn c a → b < length c → sort_at c b ≡ rest_sort t → Sound l new
 sound_pair l c new t a b s e small lab ha lb sb = subst (λ n. Sound l n) (sym e) (sound_bare l c (Pair t a b) s (subst (λ n. length n ≤ 2 ^ 32) e small) (ha.0, lb, ha.1, sb) lab)
 
-pub made_const : (l : List Label) (c new : List Cell) (t : Tag) (node : ℕ) → Sound l c → new ≡ c ++ record { shape = Const t; equal = false } ∷ [] → length new ≤ 2 ^ 32 → node ≡ length c → TagIn (length l) t
+pub made_const : (l : List Label) (c new : List Cell) (t : Tag) (node : ℕ) → Sound l c → new ≡ c ++ record { shape = Const t; equal = false } ∷ [] → length new ≤ 2 ^ 32 → node ≡ length c → TagIn (length l) t × IsAlone t
     → Made (record { cells = c; labels = l }) (record { cells = new; labels = l }) node (tag_sort t) (λ θ. Atom (head_of l t))
 made_const l c new t node s e small d lab =
     let put : List Cell = c ++ record { shape = Const t; equal = false } ∷ [] in
@@ -203,7 +203,7 @@ made_const l c new t node s e small d lab =
     subst (λ n. Made (record { cells = c; labels = l }) (record { cells = n; labels = l }) node (tag_sort t) (λ θ. Atom (head_of l t))) (sym e)
     (subst (λ n. Made (record { cells = c; labels = l }) (record { cells = put; labels = l }) n (tag_sort t) (λ θ. Atom (head_of l t))) (sym d) m)
 
-pub sound_const : (l : List Label) (c new : List Cell) (t : Tag) → Sound l c → new ≡ c ++ record { shape = Const t; equal = false } ∷ [] → length new ≤ 2 ^ 32 → TagIn (length l) t → Sound l new
+pub sound_const : (l : List Label) (c new : List Cell) (t : Tag) → Sound l c → new ≡ c ++ record { shape = Const t; equal = false } ∷ [] → length new ≤ 2 ^ 32 → TagIn (length l) t × IsAlone t → Sound l new
 sound_const l c new t s e small lab = subst (λ n. Sound l n) (sym e) (sound_bare l c (Const t) s (subst (λ n. length n ≤ 2 ^ 32) e small) tt lab)
 
 -- one after another

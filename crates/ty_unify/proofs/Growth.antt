@@ -57,7 +57,7 @@ sort_last cells c = ap cell_sort (get_or-append_seam cells c [] open_cell)
 
 ordered_more : (n m : ℕ) (s s' : ℕ → Sort) (h : Shape) (i : ℕ) → i ≤ n → n ≤ m → ((j : ℕ) → j < n → s' j ≡ s j) → ShapeOrdered n s h i → ShapeOrdered m s' h i
 ordered_more n m s s' Open i b l q o = tt
-ordered_more n m s s' (Same j k) i b l q o = let p = o.0 in (p, q j (omega arith) ∙ o.1)
+ordered_more n m s s' (Same j k) i b l q o = let p = o.0.1 in ((o.0.0, omega arith), q j p ∙ o.1)
 ordered_more n m s s' (Const t) i b l q o = tt
 ordered_more n m s s' (Pair t x y) i b l q o = let p = o.0 in let r = o.1 in (omega arith, omega arith, q x p ∙ o.2, q y r ∙ o.3)
 
@@ -70,7 +70,7 @@ new_rank (Pair t a b) rank = rank a + rank b + 1
 
 ranked_same : (n : ℕ) (s : Shape) (srt : ℕ → Sort) (rank rank' : ℕ → ℕ) (i : ℕ) → i < n → ((j : ℕ) → j < n → rank' j ≡ rank j) → ShapeOrdered n srt s i → PartsBelow s rank i → PartsBelow s rank' i
 ranked_same n Open srt rank rank' i l q o p = tt
-ranked_same n (Same j s) srt rank rank' i l q o p = let d = o.0 in let e = q j (omega arith) in let f = q i l in omega arith
+ranked_same n (Same j s) srt rank rank' i l q o p = let e = q j o.0.1 in let f = q i l in omega arith
 ranked_same n (Const t) srt rank rank' i l q o p = tt
 ranked_same n (Pair t a b) srt rank rank' i l q o p =
     let p0 = p.0 in let p1 = p.1 in let e = q a o.0 in let f = q b o.1 in let g = q i l in (omega arith, omega arith)
@@ -78,7 +78,7 @@ ranked_same n (Pair t a b) srt rank rank' i l q o p =
 ranked_here : (n : ℕ) (s : Shape) (srt : ℕ → Sort) (rank rank' : ℕ → ℕ) → ((j : ℕ) → j < n → rank' j ≡ rank j) → rank' n ≡ new_rank s rank → ShapeOrdered n srt s n → PartsBelow s rank' n
 unfolding new_rank
 ranked_here n Open srt rank rank' q h o = tt
-ranked_here n (Same j s) srt rank rank' q h o = let e = q j o.0 in omega arith
+ranked_here n (Same j s) srt rank rank' q h o = let e = q j o.0.1 in omega arith
 ranked_here n (Const t) srt rank rank' q h o = tt
 ranked_here n (Pair t a b) srt rank rank' q h o = let e = q a o.0 in let f = q b o.1 in (omega arith, omega arith)
 

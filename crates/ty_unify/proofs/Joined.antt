@@ -14,7 +14,7 @@ use Rattle.ty_unify.specs.declared.cell.Tag.TheVariants as tag
 use Rattle.ty_unify.specs.declared.join.Task.{Task}
 use Rattle.ty_unify.specs.declared.join.Task.TheVariants.{Equal}
 use Rattle.ty_unify.specs.Trees.{Tree, Atom, Fork, Head, Arrow, Named, Record, Field, Argument, NoFields, LastField, LastArgument, Admits}
-use Rattle.ty_unify.specs.Cells.{cell_at, open_cell, head_of, rest_sort, ShapeHolds, Held, Bounded, BoundBy, Ordered, Labelled, ShapeOrdered, ShapeLabelled, sort_at, cell_sort, IsRoot}
+use Rattle.ty_unify.specs.Cells.{cell_at, open_cell, head_of, rest_sort, ShapeHolds, Held, Bounded, BoundBy, Ordered, Labelled, LinksTo, link_rank, ShapeOrdered, ShapeLabelled, sort_at, cell_sort, IsRoot}
 use Rattle.ty_unify.specs.Steps.{Agrees, TasksIn, bound_tasks, link_to, IsShaped, HeadsSame, HeadsEnd, parts_of, cell_weight, shape_weight, Below, UpTo, Nothing, Stepped}
 use Rattle.ty_unify.proofs.Sets.{each_set, each_kept, each_here, each_and}
 use Rattle.ty_unify.proofs.Tasks.{agrees_join, tasks_join, bound_said, bound_in, bound_length, bound_back, bound_any, moved}
@@ -29,7 +29,7 @@ sorts_set cells k c lt e i =
 
 shape_kept : (n m : ℕ) (s s' : ℕ → Sort) (h : Shape) (i : ℕ) → m ≡ n → ((j : ℕ) → s' j ≡ s j) → ShapeOrdered n s h i → ShapeOrdered m s' h i
 shape_kept n m s s' Open i e q o = tt
-shape_kept n m s s' (Same j k) i e q o = (o.0, q j ∙ o.1)
+shape_kept n m s s' (Same j k) i e q o = ((o.0.0, subst (λ x. j < x) (sym e) o.0.1), q j ∙ o.1)
 shape_kept n m s s' (Const t) i e q o = tt
 shape_kept n m s s' (Pair t a b) i e q o = (subst (λ x. a < x) (sym e) o.0, subst (λ x. b < x) (sym e) o.1, q a ∙ o.2, q b ∙ o.3)
 
@@ -44,6 +44,9 @@ order_set cells k c o lt e here = record {
 pub labelled_set : (m : ℕ) (cells : List Cell) (k : ℕ) (c : Cell) → Labelled m cells → k < length cells → ShapeLabelled m c.shape → Labelled m (slice_set cells k c)
 labelled_set m cells k c l lt here = record { labelled = each_set (λ x i. ShapeLabelled m x.shape) cells k c lt (λ i ne. l.labelled i) here }
 
+links_apart : (n j i : ℕ) → LinksTo n j i → j ≡ i → ⊥
+links_apart n j i l e = let r = l.0 in let q = ap link_rank e in omega arith
+
 pub root_ordered : (n : ℕ) (s : ℕ → Sort) (h : Shape) (i j : ℕ) → IsRoot h → ShapeOrdered n s h i → ShapeOrdered n s h j
 root_ordered n s Open i j r o = tt
 root_ordered n s (Same k q) i j r o = absurd r
@@ -52,7 +55,7 @@ root_ordered n s (Pair t a b) i j r o = o
 
 -- the higher node becomes a link, where the lower node and the new equations say what its head said
 pub linked : (labels : List Label) (cells : List Cell) (before eqs : List Task) (low high : ℕ)
-    → Ordered cells → Labelled (length labels) cells → low < high → high < length cells → sort_at cells low ≡ sort_at cells high → IsRoot (cell_at cells high).shape
+    → Ordered cells → Labelled (length labels) cells → LinksTo (length cells) low high → high < length cells → sort_at cells low ≡ sort_at cells high → IsRoot (cell_at cells high).shape
     → TasksIn (length cells) (sort_at cells) before → TasksIn (length cells) (sort_at cells) eqs
     → ((A : Tree → Type 0) (θ : ℕ → Tree) → ShapeHolds labels (cell_at cells low).shape low θ → θ high ≡ θ low → Agrees A eqs θ → ShapeHolds labels (cell_at cells high).shape high θ)
     → ((θ : ℕ → Tree) → ShapeHolds labels (cell_at cells low).shape low θ → ShapeHolds labels (cell_at cells high).shape high θ → θ low ≡ θ high → Agrees Admits eqs θ)
@@ -63,7 +66,7 @@ linked labels cells before eqs low high o lab lt within same root tb te hs hf le
     let l = link_to low (sort_at cells high) in
     let new = slice_set cells high l in
     let bound = bound_tasks c.equal low in
-    let ne : low ≡ high → ⊥ = omega arith in
+    let ne = links_apart (length cells) low high lt in
     let w = sum_by-set cell_weight cells high l open_cell within in
     let back : (A B : Tree → Type 0) (imp : (t : Tree) → A t → B t) (θ : ℕ → Tree) → ((i : ℕ) → Held labels A B (cell_at new i) i θ) → Agrees A ((before ++ eqs) ++ bound) θ
     → ((i : ℕ) → Held labels A B (cell_at cells i) i θ) × Agrees A before θ × (θ low ≡ θ high) =
@@ -81,7 +84,7 @@ linked labels cells before eqs low high o lab lt within same root tb te hs hf le
       labelled = labelled_set (length labels) cells high l lab within tt;
       same_length = length-set cells high l;
       sorts = sorts_set cells high l within refl;
-      tasks = tasks_join (length cells) (sort_at cells) (before ++ eqs) bound (tasks_join (length cells) (sort_at cells) before eqs tb te) (bound_in (length cells) (sort_at cells) c.equal low (omega arith));
+      tasks = tasks_join (length cells) (sort_at cells) (before ++ eqs) bound (tasks_join (length cells) (sort_at cells) before eqs tb te) (bound_in (length cells) (sort_at cells) c.equal low lt.1);
       exact = λ θ. (
         (λ s. let b = back Admits Admits (λ t h. h) θ s.0.holds s.1 in ((record { holds = b.0 }, b.1), b.2)),
         (λ s.
@@ -106,7 +109,7 @@ linked labels cells before eqs low high o lab lt within same root tb te hs hf le
 
 -- the higher one is open
 pub join_open_high : (labels : List Label) (cells : List Cell) (before : List Task) (low high : ℕ)
-    → Ordered cells → Labelled (length labels) cells → low < high → high < length cells → sort_at cells low ≡ sort_at cells high
+    → Ordered cells → Labelled (length labels) cells → LinksTo (length cells) low high → high < length cells → sort_at cells low ≡ sort_at cells high
     → TasksIn (length cells) (sort_at cells) before → (cell_at cells high).shape ≡ Open
     → Stepped labels cells (slice_set cells high (link_to low (sort_at cells high))) before (before ++ bound_tasks (cell_at cells high).equal low) (Equal low high)
 join_open_high labels cells before low high o lab lt within same tb e =
@@ -213,7 +216,7 @@ heads_length labels (Pair c p q) (Const d) e h = absurd h
 
 -- both have one head
 pub join_heads : (labels : List Label) (cells : List Cell) (before : List Task) (low high : ℕ)
-    → Ordered cells → Labelled (length labels) cells → low < high → high < length cells → sort_at cells low ≡ sort_at cells high → IsRoot (cell_at cells high).shape
+    → Ordered cells → Labelled (length labels) cells → LinksTo (length cells) low high → high < length cells → sort_at cells low ≡ sort_at cells high → IsRoot (cell_at cells high).shape
     → TasksIn (length cells) (sort_at cells) before → HeadsSame labels (cell_at cells low).shape (cell_at cells high).shape
     → Stepped labels cells (slice_set cells high (link_to low (sort_at cells high))) before
     ((before ++ parts_of (cell_at cells low).shape (cell_at cells high).shape) ++ bound_tasks (cell_at cells high).equal low) (Equal low high)
@@ -233,7 +236,7 @@ open_bound labels A B c i θ e h = subst (λ s. Bounded A B s c.equal (θ i)) e 
 
 -- the lower one is open, and takes over the cell of the higher one
 pub join_open_low : (labels : List Label) (cells : List Cell) (before : List Task) (low high : ℕ)
-    → Ordered cells → Labelled (length labels) cells → low < high → high < length cells → sort_at cells low ≡ sort_at cells high → IsRoot (cell_at cells high).shape
+    → Ordered cells → Labelled (length labels) cells → LinksTo (length cells) low high → high < length cells → sort_at cells low ≡ sort_at cells high → IsRoot (cell_at cells high).shape
     → TasksIn (length cells) (sort_at cells) before → (cell_at cells low).shape ≡ Open
     → Stepped labels cells (slice_set (slice_set cells low (cell_at cells high)) high (link_to low (sort_at cells high))) before
     (before ++ bound_tasks (cell_at cells low).equal low) (Equal low high)
@@ -244,9 +247,9 @@ join_open_low labels cells before low high o lab lt within same root tb e1 =
     let mid = slice_set cells low c in
     let new = slice_set mid high l in
     let bound = bound_tasks d.equal low in
-    let lw : low < length cells = omega arith in
-    let lne : high ≡ low → ⊥ = omega arith in
-    let ne : low ≡ high → ⊥ = omega arith in
+    let lw = lt.1 in
+    let ne = links_apart (length cells) low high lt in
+    let lne = λ (e : high ≡ low). ne (sym e) in
     let ml = length-set cells low c in
     let midw : high < length mid = omega arith in
     let same_high : cell_at mid high ≡ c = get_or-set_other cells low high c open_cell lne in
@@ -273,7 +276,7 @@ join_open_low labels cells before low high o lab lt within same root tb e1 =
     (each_and at cells low kept (open_held labels A B d low θ e1 ((bound_said A d.equal low θ).0 s.1)), s.0, sym e)
     in
     record {
-      order = order_set mid high l om midw (sh ∙ refl) (lt, sm low ∙ same);
+      order = order_set mid high l om midw (sh ∙ refl) ((lt.0, subst (λ x. low < x) (sym ml) lt.1), sm low ∙ same);
       labelled = labelled_set (length labels) mid high l lm midw tt;
       same_length = length-set mid high l ∙ ml;
       sorts = λ i. sorts_set mid high l midw (sh ∙ refl) i ∙ sm i;
@@ -310,7 +313,7 @@ heads_true false labels a b before after e h = absurd (cc)
 
 -- what `join` does where the heads are the same
 pub join_same : (went : Bool) (labels : List Label) (cells new : List Cell) (before mid after : List Task) (low high : ℕ) (x y : Cell)
-    → Ordered cells → Labelled (length labels) cells → low < high → high < length cells → sort_at cells low ≡ sort_at cells high → IsRoot (cell_at cells high).shape
+    → Ordered cells → Labelled (length labels) cells → LinksTo (length cells) low high → high < length cells → sort_at cells low ≡ sort_at cells high → IsRoot (cell_at cells high).shape
     → TasksIn (length cells) (sort_at cells) before → cell_at cells low ≡ x → cell_at cells high ≡ y → went ≡ true → HeadsEnd went labels x.shape y.shape before mid
     → new ≡ slice_set cells high (link_to low (sort_at cells high)) → after ≡ mid ++ bound_tasks (cell_at cells high).equal low
     → Stepped labels cells new before after (Equal low high)

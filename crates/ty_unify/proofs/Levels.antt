@@ -1,5 +1,5 @@
 -- The folds over types, level by level.
-use Rattle.std.proofs.Common.{rules, ◌≡◌, ℕ, List, map, ◌&&◌, ◌||◌, true}
+use Rattle.std.proofs.Common.{rules, ◌≡◌, ◌==◌, ℕ, List, map, ◌&&◌, ◌||◌, true}
 use Rattle.std.specs.List.{list_any, list_all}
 use Rattle.tl_text.specs.Pairs.{map_second, seconds}
 use Rattle.sml_static.specs.declared.ty.Label.{Label}
@@ -8,7 +8,7 @@ use Rattle.sml_static.specs.declared.ty.Ty.{Ty}
 use Rattle.sml_static.specs.declared.ty.Ty.TheVariants as ty
 use Rattle.sml_static.specs.declared.ty.Ty.TheFolds
 use Rattle.ty_unify.specs.Trees.{Tree, Fork, Arrow}
-use Rattle.ty_unify.specs.Building.{under, has_free, is_closed, fields_tree}
+use Rattle.ty_unify.specs.Building.{under, has_free, is_closed, fields_tree, named_tree}
 
 pub free_fields : (n : ℕ) (fs : List (Label × Ty)) → has_free n (ty.Fields fs) ≡ list_any (λ f. f) (seconds (map_second (has_free n) fs))
 free_fields n fs = search (rules, TheFolds.the_lemmas)
@@ -39,3 +39,12 @@ under_free θ n = search (rules, TheFolds.the_lemmas)
 
 pub free_free : (n : ℕ) → has_free n (ty.Free n) ≡ true
 free_free n = search (rules, TheFolds.the_lemmas)
+
+pub under_args : (θ : ℕ → Tree) (name : TyName) (ts : List Ty) → under θ (ty.Con name ts) ≡ named_tree name (map (under θ) ts)
+under_args θ name ts = search (rules, TheFolds.the_lemmas)
+
+pub free_of : (n m : ℕ) → has_free n (ty.Free m) ≡ (m == n)
+free_of n m = search (rules, TheFolds.the_lemmas)
+
+pub closed_free : (n : ℕ) → is_closed (ty.Free n) ≡ true
+closed_free n = search (rules, TheFolds.the_lemmas)

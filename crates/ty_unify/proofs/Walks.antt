@@ -13,7 +13,7 @@ use Rattle.ty_unify.specs.declared.walk.Stage.TheVariants.{New, Busy, Done}
 use Rattle.ty_unify.specs.declared.walk.Part.{Part}
 use Rattle.ty_unify.specs.declared.walk.Part.TheVariants as part
 use Rattle.ty_unify.specs.Trees.{Tree, tree_size}
-use Rattle.ty_unify.specs.Cells.{cell_at, Shaped, ShapeHolds, Ordered, ShapeOrdered, sort_at}
+use Rattle.ty_unify.specs.Cells.{cell_at, Shaped, ShapeHolds, Ordered, ShapeOrdered, link_rank, sort_at}
 use Rattle.ty_unify.specs.Walking.{mark_at, part_of, first_of, part_in, InMarks, left_weight, left_over, new_weight, new_left, Finished, DoneBelow, PartsDone, Numbered, Under, PathUnder, IsIn, Each, Walk, WalkEnds, IsDone}
 
 under_self : (θ : ℕ → Tree) (i : ℕ) → Under θ i i → ⊥
@@ -37,7 +37,7 @@ part_under : (labels : List Label) (n : ℕ) (o : ℕ → Sort) (s : Shape) (i c
 part_under labels n o Open i c θ h r p = absurd p
 part_under labels n o (Same j s) i c θ h r p =
     let e : tree_size (θ c) ≡ tree_size (θ i) = ap (λ k. tree_size (θ k)) p ∙ ap tree_size (sym h) in
-    let l = r.0 in inr (omega arith, omega arith)
+    inr (omega arith, subst (λ k. link_rank k < link_rank i) (sym p) r.0.0)
 part_under labels n o (Const t) i c θ h r p = absurd p
 part_under labels n o (Pair t a b) i c θ h r (inl p) =
     let e : tree_size (θ i) ≡ 1 + tree_size (θ a) + tree_size (θ b) = ap tree_size h in
@@ -48,14 +48,14 @@ part_under labels n o (Pair t a b) i c θ h r (inr p) =
 
 part_range : (n : ℕ) (o : ℕ → Sort) (s : Shape) (i c : ℕ) → i < n → ShapeOrdered n o s i → IsPart s c → c < n
 part_range n o Open i c l r p = absurd p
-part_range n o (Same j s) i c l r p = let m = r.0 in omega arith
+part_range n o (Same j s) i c l r p = let m = r.0.1 in omega arith
 part_range n o (Const t) i c l r p = absurd p
 part_range n o (Pair t a b) i c l r (inl p) = let m = r.0 in omega arith
 part_range n o (Pair t a b) i c l r (inr p) = let m = r.1 in omega arith
 
 pub in_marks : (n m : ℕ) (o : ℕ → Sort) (s : Shape) (i : ℕ) → i < n → m ≡ n → ShapeOrdered n o s i → InMarks m s
 in_marks n m o Open i l e r = tt
-in_marks n m o (Same j s) i l e r = let k = r.0 in omega arith
+in_marks n m o (Same j s) i l e r = let k = r.0.1 in omega arith
 in_marks n m o (Const t) i l e r = tt
 in_marks n m o (Pair t a b) i l e r = let k = r.0 in let q = r.1 in (omega arith, omega arith)
 
@@ -136,18 +136,18 @@ kept_set marks node m none i r e =
       | inr ne ↦ get_or-set_other marks node i m New ne ∙ e
     ]
 
-in_last : (i x : ℕ) (xs : List ℕ) → IsIn i (xs ++ x ∷ []) → IsIn i xs ⊎ (i ≡ x)
+pub in_last : (i x : ℕ) (xs : List ℕ) → IsIn i (xs ++ x ∷ []) → IsIn i xs ⊎ (i ≡ x)
 in_last i x [] (inl e) = inr e
 in_last i x [] (inr h) = absurd h
 in_last i x (y ∷ ys) (inl e) = inl (inl e)
 in_last i x (y ∷ ys) (inr h) = elim (in_last i x ys h) [ inl p ↦ inl (inr p) | inr p ↦ inr p ]
 
-in_more : (i x : ℕ) (xs : List ℕ) → IsIn i xs → IsIn i (xs ++ x ∷ [])
+pub in_more : (i x : ℕ) (xs : List ℕ) → IsIn i xs → IsIn i (xs ++ x ∷ [])
 in_more i x [] h = absurd h
 in_more i x (y ∷ ys) (inl e) = inl e
 in_more i x (y ∷ ys) (inr h) = inr (in_more i x ys h)
 
-in_here : (x : ℕ) (xs : List ℕ) → IsIn x (xs ++ x ∷ [])
+pub in_here : (x : ℕ) (xs : List ℕ) → IsIn x (xs ++ x ∷ [])
 in_here x [] = inl refl
 in_here x (y ∷ ys) = inr (in_here x ys)
 
@@ -160,11 +160,11 @@ path_more : (θ : ℕ → Tree) (x c : ℕ) (xs : List ℕ) → Under θ c x →
 path_more θ x c [] u h = ((u, tt), (tt, tt))
 path_more θ x c (y ∷ ys) u h = (all_last θ y x c ys u h.0, path_more θ x c ys u h.1)
 
-all_front : (P : ℕ → Type 0) (xs : List ℕ) (x : ℕ) → Each P (xs ++ x ∷ []) → Each P xs × P x
+pub all_front : (P : ℕ → Type 0) (xs : List ℕ) (x : ℕ) → Each P (xs ++ x ∷ []) → Each P xs × P x
 all_front P [] x h = (tt, h.0)
 all_front P (y ∷ ys) x h = let r = all_front P ys x h.1 in ((h.0, r.0), r.1)
 
-all_more : (P : ℕ → Type 0) (xs : List ℕ) (x : ℕ) → Each P xs → P x → Each P (xs ++ x ∷ [])
+pub all_more : (P : ℕ → Type 0) (xs : List ℕ) (x : ℕ) → Each P xs → P x → Each P (xs ++ x ∷ [])
 all_more P [] x h p = (p, tt)
 all_more P (y ∷ ys) x h p = (h.0, all_more P ys x h.1 p)
 
@@ -372,6 +372,19 @@ new_part marks s c e = (found_new marks s c e).0
 pub walk_at : (cells : List Cell) (first marks marks' : List Stage) (next : ℕ) (path path' : List ℕ) → marks' ≡ marks → path' ≡ path → Walk cells first marks next path → Walk cells first marks' next path'
 walk_at cells first marks marks' next path path' e d w =
     subst (λ m. Walk cells first m next path') (sym e) (subst (λ p. Walk cells first marks next p) (sym d) w)
+
+-- a walk that goes on from here
+pub walk_on : (cells : List Cell) (first marks : List Stage) (next : ℕ) (path : List ℕ) → Walk cells first marks next path → Walk cells marks marks next path
+walk_on cells first marks next path w = record {
+  same_length = w.same_length;
+  numbered = w.numbered;
+  room = w.room;
+  within = w.within;
+  busy = w.busy;
+  kept = λ i r e. e;
+  met = λ i e. e;
+  under = w.under;
+}
 
 -- before anything is numbered
 pub walk_none : (cells : List Cell) (marks : List Stage) → length marks ≡ length cells → ((i : ℕ) → mark_at marks i ≡ New) → Walk cells marks marks 0 []

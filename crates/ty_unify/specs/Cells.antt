@@ -1,5 +1,5 @@
 -- The assignments of trees to nodes that a store's cells allow.
-use Rattle.std.specs.Prelude.{ℕ, ◌≡◌, ◌<◌, List, [], ◌∷◌, length, slice_index_or, slice_set, Bool, true, false}
+use Rattle.std.specs.Prelude.{ℕ, ◌+◌, ◌*◌, ◌%◌, ◌^◌, ◌≡◌, ◌<◌, List, [], ◌∷◌, length, slice_index_or, slice_set, Bool, true, false}
 use Rattle.sml_static.specs.declared.ty.Label.{Label}
 use Rattle.sml_static.specs.declared.ty.Label.TheVariants as label
 use Rattle.ty_unify.specs.declared.cell.Cell.{Cell}
@@ -106,15 +106,48 @@ cell_sort c = shape_sort c.shape
 abbrev pub sort_at : List Cell → ℕ → Sort
 sort_at cells i = cell_sort (cell_at cells i)
 
--- a link leads to a lower node, parts are nodes, and all are of their sorts
+-- a number of each node, as if it were drawn: links lead to smaller ones, so that few lead on from one another
+abbrev pub drawn : ℕ → ℕ
+drawn i = i * 11400714819323198485 % 2 ^ 64
+
+unfoldable pub link_rank : ℕ → ℕ
+link_rank i = drawn i * 2 ^ 64 + i
+
+-- a link from i may lead to j
+abbrev pub LinksTo : ℕ → ℕ → ℕ → Type 0
+LinksTo n j i = (link_rank j < link_rank i) × (j < n)
+
+-- links go one way, parts are nodes, and all are of their sorts
 abbrev pub ShapeOrdered : ℕ → (ℕ → Sort) → Shape → ℕ → Type 0
 ShapeOrdered n s Open i = Unit {0}
-ShapeOrdered n s (Same j k) i = (j < i) × (s j ≡ k)
+ShapeOrdered n s (Same j k) i = LinksTo n j i × (s j ≡ k)
 ShapeOrdered n s (Const t) i = Unit {0}
 ShapeOrdered n s (Pair t a b) i = (a < n) × (b < n) × (s a ≡ sort.Type) × (s b ≡ rest_sort t)
 
 pub record Ordered (cells : List Cell) : Type 0 where
   pub ordered : (i : ℕ) → ShapeOrdered (length cells) (sort_at cells) (cell_at cells i).shape i
+
+-- a tag of a node without parts
+abbrev pub IsAlone : Tag → Type 0
+IsAlone tag.Arrow = ⊥
+IsAlone (tag.Named n) = Unit {0}
+IsAlone (tag.Record l) = ⊥
+IsAlone (tag.Field l) = ⊥
+IsAlone tag.Argument = ⊥
+IsAlone tag.NoFields = Unit {0}
+IsAlone tag.LastField = Unit {0}
+IsAlone tag.LastArgument = Unit {0}
+
+-- a tag of a node with two parts
+abbrev pub HasParts : Tag → Type 0
+HasParts tag.Arrow = Unit {0}
+HasParts (tag.Named n) = Unit {0}
+HasParts (tag.Record l) = Unit {0}
+HasParts (tag.Field l) = Unit {0}
+HasParts tag.Argument = Unit {0}
+HasParts tag.NoFields = ⊥
+HasParts tag.LastField = ⊥
+HasParts tag.LastArgument = ⊥
 
 -- the label of a tag stands in the row of labels
 abbrev pub TagIn : ℕ → Tag → Type 0
@@ -127,11 +160,12 @@ TagIn m tag.NoFields = Unit {0}
 TagIn m tag.LastField = Unit {0}
 TagIn m tag.LastArgument = Unit {0}
 
+-- the tag of a shape has as many parts, and its label stands in the row
 abbrev pub ShapeLabelled : ℕ → Shape → Type 0
 ShapeLabelled m Open = Unit {0}
 ShapeLabelled m (Same j s) = Unit {0}
-ShapeLabelled m (Const t) = TagIn m t
-ShapeLabelled m (Pair t a b) = TagIn m t
+ShapeLabelled m (Const t) = TagIn m t × IsAlone t
+ShapeLabelled m (Pair t a b) = TagIn m t × HasParts t
 
 pub record Labelled (m : ℕ) (cells : List Cell) : Type 0 where
   pub labelled : (i : ℕ) → ShapeLabelled m (cell_at cells i).shape

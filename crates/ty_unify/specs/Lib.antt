@@ -4,3 +4,5 @@ pub mod Steps
 pub mod Walking
 pub mod Stores
 pub mod Building
+pub mod Formed
+pub mod Reading

@@ -9,7 +9,7 @@ use Rattle.ty_unify.specs.declared.cell.Sort.TheVariants as sort
 use Rattle.ty_unify.specs.declared.node.UnifyFault.{UnifyFault}
 use Rattle.ty_unify.specs.declared.node.UnifyFault.TheVariants as fault
 use Rattle.ty_unify.specs.Trees.{Tree, Admits}
-use Rattle.ty_unify.specs.Cells.{Solves, BoundBy, Ordered, Labelled, cell_at, sort_at}
+use Rattle.ty_unify.specs.Cells.{Solves, Shaped, BoundBy, Ordered, Labelled, cell_at, sort_at}
 use Rattle.ty_unify.specs.Steps.{Handed}
 use Rattle.ty_unify.specs.Walking.{Ranked}
 
@@ -74,6 +74,10 @@ pub record Grown (old new : Known) (node : ℕ) (P : (ℕ → Tree) → Tree →
 abbrev pub KindHolds : VarKind → Tree → Type 0
 KindHolds kind.Plain t = Unit {0}
 KindHolds kind.Equal t = Admits t
+
+-- a node that is, or leads to, a variable among the cells
+abbrev pub LeadsToVariable : List Cell → ℕ → Type 0
+LeadsToVariable cells node = (r : ℕ) × ((cell_at cells r).shape ≡ Open) × ((labels : List Label) (θ : ℕ → Tree) → Shaped labels cells θ → θ node ≡ θ r)
 
 -- the two were joined, as far as the cells
 pub record JoinedCells (labels : List Label) (old new : List Cell) (a b : ℕ) : Type 0 where

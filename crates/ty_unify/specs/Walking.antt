@@ -9,7 +9,7 @@ use Rattle.ty_unify.specs.declared.walk.Stage.TheVariants.{New, Busy, Done}
 use Rattle.ty_unify.specs.declared.walk.Part.{Part}
 use Rattle.ty_unify.specs.declared.walk.Part.TheVariants as part
 use Rattle.ty_unify.specs.Trees.{Tree, tree_size}
-use Rattle.ty_unify.specs.Cells.{cell_at, open_cell, Shaped}
+use Rattle.ty_unify.specs.Cells.{cell_at, open_cell, Shaped, link_rank}
 
 -- each part has a smaller rank
 abbrev pub PartsBelow : Shape → (ℕ → ℕ) → ℕ → Type 0
@@ -89,9 +89,9 @@ pub record Numbered (cells : List Cell) (marks : List Stage) (next : ℕ) : Type
   pub below : (i r : ℕ) → mark_at marks i ≡ Done r → r < next
   pub parts : (i r : ℕ) → mark_at marks i ≡ Done r → PartsDone (cell_at cells i).shape marks r
 
--- what a node's part is to it: a smaller tree, or no larger one at a lower node
+-- what a node's part is to it: a smaller tree, or no larger one at a node to which links lead from it
 abbrev pub Under : (ℕ → Tree) → ℕ → ℕ → Type 0
-Under θ i g = (tree_size (θ i) < tree_size (θ g)) ⊎ ((tree_size (θ i) ≤ tree_size (θ g)) × (i < g))
+Under θ i g = (tree_size (θ i) < tree_size (θ g)) ⊎ ((tree_size (θ i) ≤ tree_size (θ g)) × (link_rank i < link_rank g))
 
 -- it holds of each
 abbrev pub Each : (ℕ → Type 0) → List ℕ → Type 0
@@ -141,3 +141,13 @@ pub record Covered (cells : List Cell) (log : List (ℕ × Cell)) : Type 0 where
 abbrev pub CoverEnds : Bool → List Cell → List (ℕ × Cell) → Type 0
 CoverEnds true cells log = Covered cells log
 CoverEnds false cells log = (labels : List Label) (θ : ℕ → Tree) → Shaped labels cells θ → ⊥
+
+-- as many marks, and the nodes that are not new were seen
+pub record Tracked (count : ℕ) (marks : List Stage) (seen : List ℕ) : Type 0 where
+  pub full : length marks ≡ count
+  pub met : (i : ℕ) → (mark_at marks i ≡ New → ⊥) → IsIn i seen
+
+-- no more marks than that, and all are new
+pub record Rested (count : ℕ) (marks : List Stage) : Type 0 where
+  pub within : length marks ≤ count
+  pub fresh : (i : ℕ) → mark_at marks i ≡ New

@@ -2,8 +2,9 @@ ghost use Rattle.std.specs.Prelude.{◌≡◌, ℕ, ◌+◌, ◌<◌, ◌≤◌,
 ghost use Rattle.std.specs.List.{list_any, list_all};
 ghost use Rattle.tl_text.specs.Pairs.{map_second, seconds};
 ghost use Rattle.ty_unify.specs.Trees.{Tree, Atom, Fork, Field, Record};
-ghost use Rattle.ty_unify.specs.Cells.{TagIn, tag_sort, rest_sort, sort_at, head_of};
+ghost use Rattle.ty_unify.specs.Cells.{TagIn, IsAlone, HasParts, tag_sort, rest_sort, sort_at, head_of};
 ghost use Rattle.ty_unify.specs.Stores.{HasNode};
+ghost use Rattle.ty_unify.specs.Formed.{FormedAs};
 ghost use Rattle.ty_unify.specs.Building.{NodeIn, Made, LabelMade, under, has_free, is_closed, named_tree, fields_tree};
 
 use crate::cell::{Cell, Shape, Sort, Tag, add_cell};
@@ -19,7 +20,8 @@ impl Store {
     pub fn build(&mut self, ty: &Ty) -> Result<Node, NoMemory>
         requires free { (n : ℕ) → IsTrue (has_free n ty.now) → HasNode self.old n }
         requires closed { IsTrue (is_closed ty.now) }
-        ensures { IfOk result (λ node. Made self.old self.new node.number Sort.Type (λ θ. under θ ty.now)) }
+        ensures made { IfOk result (λ node. Made self.old self.new node.number Sort.Type (λ θ. under θ ty.now)) }
+        ensures formed { IfOk result (λ node. FormedAs self.new (HasNode self.old) node.number ty.now) }
     {
         let number = self.build_ty(ty)?;
         if number > u32::MAX as usize {
@@ -33,6 +35,7 @@ impl Store {
     // A node with a head and two parts.
     fn add_pair(&mut self, tag: Tag, a: usize, b: usize) -> Result<usize, NoMemory>
         requires tag { TagIn (length self.old.labels) tag }
+        requires parts { HasParts tag }
         requires a { NodeIn self.old.cells a }
         requires b { b < length self.old.cells }
         requires sort { sort_at self.old.cells b ≡ rest_sort tag }
@@ -50,7 +53,8 @@ impl Store {
 
     // A node with a head and no part.
     fn add_const(&mut self, tag: Tag) -> Result<usize, NoMemory>
-        requires { TagIn (length self.old.labels) tag }
+        requires tag { TagIn (length self.old.labels) tag }
+        requires alone { IsAlone tag }
         ensures { IfOk result (λ n. Made self.old self.new n (tag_sort tag) (λ θ. Atom (head_of self.old.labels tag))) }
     {
         let number = add_cell(

@@ -1,6 +1,6 @@
-ghost use Rattle.std.specs.Prelude.{◌≡◌, ℕ, ◌+◌, ◌<◌, ◌≤◌, ◌^◌, IfOk, List, length, slice_set, IsTrue, ◌↔◌, OnOk, OnErr, ◌++◌, [], ◌∷◌};
+ghost use Rattle.std.specs.Prelude.{◌≡◌, ℕ, ◌+◌, ◌<◌, ◌≤◌, ◌^◌, IfOk, List, length, slice_set, MatchBool, OnOk, OnErr, ◌++◌, [], ◌∷◌};
 ghost use Rattle.ty_unify.specs.Trees.{Tree};
-ghost use Rattle.ty_unify.specs.Cells.{Shaped, Ordered, IsRoot, cell_at, cell_sort, head_of, asked_of, undone};
+ghost use Rattle.ty_unify.specs.Cells.{Shaped, Ordered, drawn, link_rank, IsRoot, cell_at, cell_sort, head_of, asked_of, undone};
 
 use sml_static::{Label, TyName};
 use tl_text::NoMemory;
@@ -54,6 +54,32 @@ pub enum Asked {
     Never,
     Always,
     Both,
+}
+
+// A number of a node, as if it were drawn.
+fn draw(node: usize) -> usize
+    ensures { result ≡ drawn node }
+{
+    node.wrapping_mul(11_400_714_819_323_198_485)
+}
+
+/// Whether links lead from b to a, and not the other way round. The order does not go by the order in which nodes are
+/// made or joined, so no row of joins makes a long row of links.
+pub fn comes_before(a: usize, b: usize) -> bool
+    ensures { MatchBool result (link_rank a < link_rank b) (link_rank b ≤ link_rank a) }
+{
+    let first = draw(a);
+    let second = draw(b);
+    if first < second {
+        return true;
+    }
+    if second < first {
+        return false;
+    }
+    if a < b {
+        return true;
+    }
+    false
 }
 
 /// The node that stands for the class of `node`.

@@ -1,11 +1,11 @@
 ghost use Rattle.std.specs.Prelude.{◌≡◌, ℕ, slice_set, ◌+◌, ◌<◌, ◌≤◌, List, length, IfOk, OnErr, IsTrue, ◌↔◌, Bool, true, false, ◌++◌, [], ◌∷◌};
 ghost use Rattle.ty_unify.specs.Trees.{Tree};
 ghost use Rattle.sml_static.specs.declared.ty.Label.TheVariants as label;
-ghost use Rattle.ty_unify.specs.Cells.{Solves, Ordered, Labelled, TagIn, ShapeLabelled, IsRoot, cell_at, cell_sort, sort_at, head_of, asked_of, undone, tag_sort, shape_sort};
+ghost use Rattle.ty_unify.specs.Cells.{Solves, LinksTo, Ordered, Labelled, TagIn, ShapeLabelled, IsRoot, cell_at, cell_sort, sort_at, head_of, asked_of, undone, tag_sort, shape_sort};
 ghost use Rattle.ty_unify.specs.Steps.{TaskIn, TasksIn, AskEnd, bound_tasks, IsShaped, HeadsEnd, Outcome, Stepped, link_to};
 ghost use Rattle.ty_unify.specs.declared.join.Task.TheVariants.{Equal, Bound};
 
-use crate::cell::{Asked, Cell, Shape, Sort, Tag, root, write};
+use crate::cell::{Asked, Cell, Shape, Sort, Tag, comes_before, root, write};
 use sml_static::Label;
 use tl_text::NoMemory;
 
@@ -98,7 +98,7 @@ fn heads(labels: &[Label], work: &mut Vec<Task>, a: Shape, b: Shape) -> Result<b
     }
 }
 
-// Makes the higher node a link to the lower one, which gets its bound.
+// Makes the higher node a link to the lower one, in the order of links, which gets its bound.
 fn link(
     cells: &mut Vec<Cell>,
     work: &mut Vec<Task>,
@@ -132,7 +132,7 @@ fn take_over(
     low: usize,
     high: usize,
 ) -> Result<(), NoMemory>
-    requires low { low < high }
+    requires low { LinksTo (length cells.old.items) low high }
     requires high { high < length cells.old.items }
     ensures cells { IfOk result (λ _. cells.new.items ≡ slice_set (slice_set cells.old.items low (cell_at cells.old.items high)) high (link_to low (sort_at cells.old.items high))) }
     ensures work { IfOk result (λ _. work.new.items ≡ work.old.items ++ bound_tasks (cell_at cells.old.items low).equal low) }
@@ -164,7 +164,7 @@ fn join(
 ) -> Result<bool, NoMemory>
     requires order { Ordered cells.old.items }
     requires labelled { Labelled (length labels.now) cells.old.items }
-    requires low { low < high }
+    requires low { LinksTo (length cells.old.items) low high }
     requires high { high < length cells.old.items }
     requires sorts { sort_at cells.old.items low ≡ sort_at cells.old.items high }
     requires roots { IsRoot (cell_at cells.old.items low).shape × IsRoot (cell_at cells.old.items high).shape }
@@ -207,11 +207,11 @@ pub fn make_equal(
 {
     let first = root(cells, a);
     let second = root(cells, b);
-    if first < second {
+    if comes_before(first, second) {
         let went = join(labels, cells, work, log, first, second)?;
         return Ok(went);
     }
-    if second < first {
+    if comes_before(second, first) {
         let went = join(labels, cells, work, log, second, first)?;
         return Ok(went);
     }

@@ -14,6 +14,7 @@ mod cell;
 mod join;
 mod late;
 mod node;
+mod read;
 mod solve;
 mod store;
 mod walk;

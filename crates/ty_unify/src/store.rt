@@ -5,6 +5,7 @@ ghost use Rattle.ty_unify.specs.Stores.{HasNode, Unified, FaultMeans, Grown, Kin
 use crate::attempt::unify_cells;
 use crate::cell::{Cell, Shape, add_cell, root};
 use crate::node::{Node, UnifyFault};
+use crate::walk::Stage;
 use sml_static::{Label, VarKind};
 use std::alloc::Global;
 use std::marker::Model;
@@ -17,16 +18,20 @@ pub struct Store {
     pub(crate) alloc: Global,
     pub(crate) cells: Vec<Cell>,
     pub(crate) labels: Vec<Label>,
+    // A mark for each of the first nodes, for walks; all are new between calls.
+    pub(crate) marks: Vec<Stage>,
 }
 
 impl Model for Store {
+    ghost use Rattle.std.specs.Prelude.{length};
     ghost use Rattle.ty_unify.specs.Stores.{Known, Sound};
+    ghost use Rattle.ty_unify.specs.Walking.{Rested};
 
     ghost Value = { Known };
 
     ghost view = { λ s. record { cells = s.cells.items; labels = s.labels.items } };
 
-    ghost invariant = { λ s. Sound s.labels.items s.cells.items };
+    ghost invariant = { λ s. Sound s.labels.items s.cells.items × Rested (length s.cells.items) s.marks.items };
 }
 
 impl Store {
@@ -38,6 +43,7 @@ impl Store {
             alloc,
             cells: Vec::new(alloc),
             labels: Vec::new(alloc),
+            marks: Vec::new(alloc),
         }
     }
 
@@ -55,6 +61,7 @@ impl Store {
             self.alloc,
             self.labels.as_slice(),
             &mut self.cells,
+            &mut self.marks,
             a.number as usize,
             b.number as usize,
         )

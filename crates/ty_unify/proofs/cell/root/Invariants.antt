@@ -1,7 +1,7 @@
 use Rattle.std.proofs.Common.{◌≡◌, ℕ, ◌<◌, List, length}
 use Rattle.sml_static.specs.declared.ty.Label.{Label}
 use Rattle.ty_unify.specs.Trees.{Tree}
-use Rattle.ty_unify.specs.Cells.{Shaped, sort_at}
+use Rattle.ty_unify.specs.Cells.{Shaped, link_rank, sort_at}
 use Rattle.ty_unify.proofs.cell.root.Given as goal
 
 abbrev pub invariant-loop-at : goal.invariant-loop-at
@@ -12,4 +12,4 @@ invariant-loop-at l = record {
 }
 
 abbrev pub decreases-loop-at : goal.decreases-loop-at
-decreases-loop-at l = l.at
+decreases-loop-at l = link_rank l.at

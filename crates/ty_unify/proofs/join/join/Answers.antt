@@ -14,7 +14,7 @@ returns-in-Open-clause-step c =
 pub returns-in-Open-shape : goal.returns-in-Open-shape
 returns-in-Open-shape c =
     let r = c.requires in
-    let lt : c.args.low < length c.args.cells.now.items = omega arith in
+    let lt = r.low.1 in
     let at = read_is c.args.cells.now.items c.args.low c.index-first.result.now lt c.index-first.ensures in
     record {
       step = stepped_at _ _ _ _ _ _ _ _ c.in_ok-take_over.ensures.cells c.in_ok-take_over.ensures.work
@@ -25,7 +25,7 @@ returns-in-Open-shape c =
 pub returns : goal.returns
 returns c =
     let r = c.requires in
-    let lt : c.args.low < length c.args.cells.now.items = omega arith in
+    let lt = r.low.1 in
     let at_low = read_is c.args.cells.now.items c.args.low c.index-first.result.now lt c.index-first.ensures in
     let at_high = read_is c.args.cells.now.items c.args.high c.index-second.result.now r.high c.index-second.ensures in
     record {

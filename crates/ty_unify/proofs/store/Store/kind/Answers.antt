@@ -14,7 +14,7 @@ returns-then-index c =
     let lt : c.root-at.result < length cells = subst (λ (l : List Cell). c.root-at.result < length l) v r.within in
     let here = read_is cells c.root-at.result c.index.result.now lt c.index.ensures in
     subst (λ (k : Known). KindIs kind.Equal k c.args.node.number) c.self.view_is
-    (kind_is c.self.inside.labels.items cells c.as_slice.result.now c.args.node.number c.root-at.result true c.self.invariant v r.within r.root r.same (ap (λ (x : Cell). x.equal) here ∙ c.if-index.true))
+    (kind_is c.self.inside.labels.items cells c.as_slice.result.now c.args.node.number c.root-at.result true c.self.invariant.0 v r.within r.root r.same (ap (λ (x : Cell). x.equal) here ∙ c.if-index.true))
 
 pub returns-else-index : goal.returns-else-index
 returns-else-index c =
@@ -24,4 +24,4 @@ returns-else-index c =
     let lt : c.root-at.result < length cells = subst (λ (l : List Cell). c.root-at.result < length l) v r.within in
     let here = read_is cells c.root-at.result c.index.result.now lt c.index.ensures in
     subst (λ (k : Known). KindIs kind.Plain k c.args.node.number) c.self.view_is
-    (kind_is c.self.inside.labels.items cells c.as_slice.result.now c.args.node.number c.root-at.result false c.self.invariant v r.within r.root r.same (ap (λ (x : Cell). x.equal) here ∙ c.if-index.false))
+    (kind_is c.self.inside.labels.items cells c.as_slice.result.now c.args.node.number c.root-at.result false c.self.invariant.0 v r.within r.root r.same (ap (λ (x : Cell). x.equal) here ∙ c.if-index.false))
