@@ -1,0 +1,17 @@
+pub mod Lasts
+pub mod Tests
+pub mod Equal
+pub mod Inversions
+pub mod Rows
+pub mod Taking
+pub mod Reducing
+pub mod Weights
+pub mod Opening
+pub mod Pigeons
+pub mod FirstColumn
+pub mod Others
+pub mod Splitting
+pub mod Progressing
+pub mod Answering
+pub mod Gathering
+pub mod Visiting

@@ -1,0 +1,10 @@
+pub mod Keys
+pub mod Columns
+pub mod Alike
+pub mod Lines
+pub mod Steps
+pub mod Reduced
+pub mod Weights
+pub mod Heads
+pub mod Progress
+pub mod Answer
