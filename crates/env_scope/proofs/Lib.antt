@@ -1,0 +1,5 @@
+pub mod Bits
+pub mod Forks
+pub mod Parts
+pub mod Rows
+pub mod Ways

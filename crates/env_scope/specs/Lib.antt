@@ -1,0 +1,3 @@
+pub mod Index
+pub mod Numbers
+pub mod Scopes
