@@ -17,7 +17,8 @@ use Rattle.oc_ast.specs.declared.expression.Item.{Item, fold-Item}
 use Rattle.oc_ast.specs.declared.expression.MExp.{MExp, fold-MExp}
 use Rattle.oc_ast.specs.declared.expression.RBind.{RBind, fold-RBind}
 use Rattle.oc_ast.specs.declared.expression.Simple.{Simple, fold-Simple}
-use Rattle.oc_ast.specs.declared.expression.Atom.TheOpen.{Atom-F, Full-F, Item-F, MExp-F, RBind-F, Simple-F}
+use Rattle.oc_ast.specs.declared.rest.Rest.{Rest, fold-Rest}
+use Rattle.oc_ast.specs.declared.expression.Atom.TheOpen.{Atom-F, Full-F, Item-F, MExp-F, RBind-F, Rest-F, Simple-F}
 use Rattle.oc_ast.specs.declared.expression.Text.{Text}
 use Rattle.oc_ast.specs.declared.expression.Text.TheVariants as text
 use Rattle.oc_ast.specs.Plain.{Bytes, Long, PATy, PATys, NoATys, MoreATys, POTy, POTys, NoTys, MoreTys, Cons, PTDef, PAPat, PAPats, NoPats, MorePats, PPat, PMSig, PSItem, PSItems, NoSItems, MoreSItems, PAtom, PAtoms, NoAtoms, MoreAtoms, PArms, NoArms, MoreArms, PFull, PItem, PItems, NoItems, MoreItems, PMExp, PRBind, PRBinds, NoBinds, MoreBinds, PSimple}
@@ -136,7 +137,7 @@ abbrev pub row_of_arms : List (Pat × PAtom) → PArms
 row_of_arms [] = NoArms
 row_of_arms (x ∷ xs) = MoreArms (plain_pat x.0) x.1 (row_of_arms xs)
 
-abbrev pub atom_step : Atom-F PAtom PFull PItem PMExp PRBind PSimple → PAtom
+abbrev pub atom_step : Atom-F PAtom PFull PItem PMExp PRBind PSimple PFull → PAtom
 atom_step (Atom-F.Const l) = p.Const l
 atom_step (Atom-F.Val q) = p.Val q
 atom_step (Atom-F.Con q) = p.Con q
@@ -145,7 +146,7 @@ atom_step (Atom-F.Paren e) = p.Paren e
 atom_step (Atom-F.Tuple a xs) = p.Tuple a (row_of_atoms xs)
 atom_step (Atom-F.Items xs) = p.Items (row_of_atoms xs)
 
-abbrev pub full_step : Full-F PAtom PFull PItem PMExp PRBind PSimple → PFull
+abbrev pub full_step : Full-F PAtom PFull PItem PMExp PRBind PSimple PFull → PFull
 full_step (Full-F.Is e) = p.Is e
 full_step (Full-F.LetIn x e f) = p.LetIn (plain_pat x) e f
 full_step (Full-F.LetRecIn bs e) = p.LetRecIn (row_of_binds bs) e
@@ -157,7 +158,7 @@ full_step (Full-F.Try a xs) = p.Try a (row_of_arms xs)
 full_step (Full-F.While a e) = p.While a e
 full_step (Full-F.Then a e) = p.Then a e
 
-abbrev pub item_step : Item-F PAtom PFull PItem PMExp PRBind PSimple → PItem
+abbrev pub item_step : Item-F PAtom PFull PItem PMExp PRBind PSimple PFull → PItem
 item_step (Item-F.Let x e) = p.Let (plain_pat x) e
 item_step (Item-F.LetRec bs) = p.LetRec (row_of_binds bs)
 item_step (Item-F.Types ds) = p.Types (map plain_def ds)
@@ -167,40 +168,47 @@ item_step (Item-F.Module n m) = p.Module n m
 item_step (Item-F.Sealed n s m) = p.Sealed n (plain_sig s) m
 item_step (Item-F.Functor n x s m) = p.Functor n x (plain_sig s) m
 
-abbrev pub mexp_step : MExp-F PAtom PFull PItem PMExp PRBind PSimple → PMExp
+abbrev pub mexp_step : MExp-F PAtom PFull PItem PMExp PRBind PSimple PFull → PMExp
 mexp_step (MExp-F.MAt q) = p.MAt q
 mexp_step (MExp-F.Struct is) = p.Struct (row_of_items is)
 mexp_step (MExp-F.Apply f a) = p.Apply f a
 mexp_step (MExp-F.MSeal m s) = p.MSeal m (plain_sig s)
 
-abbrev pub rbind_step : RBind-F PAtom PFull PItem PMExp PRBind PSimple → PRBind
+abbrev pub rbind_step : RBind-F PAtom PFull PItem PMExp PRBind PSimple PFull → PRBind
 rbind_step (RBind-F.Plain f e) = p.Plain f e
 rbind_step (RBind-F.Poly f vs t e) = p.Poly f vs (plain_type t) e
 
-abbrev pub simple_step : Simple-F PAtom PFull PItem PMExp PRBind PSimple → PSimple
+abbrev pub simple_step : Simple-F PAtom PFull PItem PMExp PRBind PSimple PFull → PSimple
 simple_step (Simple-F.One a) = p.One a
 simple_step (Simple-F.Call a b) = p.Call a b
 simple_step (Simple-F.Build q a) = p.Build q a
 simple_step (Simple-F.Oper a o b) = p.Oper a o b
 simple_step (Simple-F.Fun x e) = p.Fun (plain_apat x) e
 
+-- the rest of a chain is the expression that it holds
+abbrev pub rest_step : Rest-F PAtom PFull PItem PMExp PRBind PSimple PFull → PFull
+rest_step r = r.full
+
 abbrev pub plain_atom : Atom → PAtom
-plain_atom = fold-Atom PAtom PFull PItem PMExp PRBind PSimple atom_step full_step item_step mexp_step rbind_step simple_step
+plain_atom = fold-Atom PAtom PFull PItem PMExp PRBind PSimple PFull atom_step full_step item_step mexp_step rbind_step simple_step rest_step
 
 abbrev pub plain_full : Full → PFull
-plain_full = fold-Full PAtom PFull PItem PMExp PRBind PSimple atom_step full_step item_step mexp_step rbind_step simple_step
+plain_full = fold-Full PAtom PFull PItem PMExp PRBind PSimple PFull atom_step full_step item_step mexp_step rbind_step simple_step rest_step
 
 abbrev pub plain_item : Item → PItem
-plain_item = fold-Item PAtom PFull PItem PMExp PRBind PSimple atom_step full_step item_step mexp_step rbind_step simple_step
+plain_item = fold-Item PAtom PFull PItem PMExp PRBind PSimple PFull atom_step full_step item_step mexp_step rbind_step simple_step rest_step
 
 abbrev pub plain_mexp : MExp → PMExp
-plain_mexp = fold-MExp PAtom PFull PItem PMExp PRBind PSimple atom_step full_step item_step mexp_step rbind_step simple_step
+plain_mexp = fold-MExp PAtom PFull PItem PMExp PRBind PSimple PFull atom_step full_step item_step mexp_step rbind_step simple_step rest_step
 
 abbrev pub plain_rbind : RBind → PRBind
-plain_rbind = fold-RBind PAtom PFull PItem PMExp PRBind PSimple atom_step full_step item_step mexp_step rbind_step simple_step
+plain_rbind = fold-RBind PAtom PFull PItem PMExp PRBind PSimple PFull atom_step full_step item_step mexp_step rbind_step simple_step rest_step
 
 abbrev pub plain_simple : Simple → PSimple
-plain_simple = fold-Simple PAtom PFull PItem PMExp PRBind PSimple atom_step full_step item_step mexp_step rbind_step simple_step
+plain_simple = fold-Simple PAtom PFull PItem PMExp PRBind PSimple PFull atom_step full_step item_step mexp_step rbind_step simple_step rest_step
+
+abbrev pub plain_rest : Rest → PFull
+plain_rest = fold-Rest PAtom PFull PItem PMExp PRBind PSimple PFull atom_step full_step item_step mexp_step rbind_step simple_step rest_step
 
 -- a whole text is the row of its items
 abbrev pub plain_text : Text → PItems

@@ -1,4 +1,4 @@
-use crate::{APat, ATy, MSig, OTy, OcLit, Pat, TDef};
+use crate::{APat, ATy, MSig, OTy, OcLit, Pat, Rest, TDef};
 use tl_text::{Boxed, List, Name, Path};
 
 /// A whole text (the manual, section 11.11: the definitions of a structure).
@@ -67,7 +67,7 @@ pub enum Simple {
     /// `a + b`. The operator stands between the two, as in the text.
     Oper(Boxed<Atom>, Name, Boxed<Atom>),
     /// `fun p -> e`.
-    Fun(Boxed<APat>, Boxed<Full>),
+    Fun(Boxed<APat>, Rest),
 }
 
 /// An expression.
@@ -77,13 +77,13 @@ pub enum Full {
     /// `f x`.
     Is(Simple),
     /// `let p = e in f`.
-    LetIn(Boxed<Pat>, Boxed<Simple>, Boxed<Full>),
+    LetIn(Boxed<Pat>, Boxed<Simple>, Rest),
     /// `let rec f = fun .. and g = fun .. in e`. The row has one binding at least.
-    LetRecIn(List<RBind>, Boxed<Full>),
+    LetRecIn(List<RBind>, Rest),
     /// `let module M = struct .. end in e`.
-    LetMod(Name, List<Item>, Boxed<Full>),
+    LetMod(Name, List<Item>, Rest),
     /// `let exception E of t in e`.
-    LetExn(Name, Option<ATy>, Boxed<Full>),
+    LetExn(Name, Option<ATy>, Rest),
     /// `if a then b else c`.
     If(Boxed<Atom>, Boxed<Atom>, Boxed<Atom>),
     /// `match a with | p -> b | q -> c`. The row has one arm at least.
@@ -93,7 +93,7 @@ pub enum Full {
     /// `while a do e done`.
     While(Boxed<Atom>, Boxed<Full>),
     /// `a ; e`.
-    Then(Boxed<Atom>, Boxed<Full>),
+    Then(Boxed<Atom>, Rest),
 }
 
 /// An expression that may stand as an argument.

@@ -9,11 +9,13 @@
 mod expression;
 mod literal;
 mod pattern;
+mod rest;
 mod signature;
 mod types;
 
 pub use expression::{Atom, Full, Item, MExp, RBind, Simple, Text};
 pub use literal::OcLit;
 pub use pattern::{APat, Pat};
+pub use rest::Rest;
 pub use signature::{MSig, SItem};
 pub use types::{ATy, OTy, TDef};

@@ -222,10 +222,13 @@ lines_does : (is : PItems) → allowed.EachItem is → Does Fresh Fresh (layout.
 lines_does NoItems h = nothing
 lines_does (MoreItems i is) (h, k) = fr_of (rr_of (item_does i h)) ⊳ new_line 0 0 ⊳ lines_does is k
 
+-- the layout of a text before bytes that are tokens
+pub layout_before : (text : PItems) → allowed.Allowed text → (rest : List ℕ) (us : Tokens) → Lexes rest us → Lexes (Layout text ++ rest) (tokens.items text ++ us)
+layout_before text h = ((lines_does text h).run blank [] (refl, λ rest us l. l)).1
+
 -- the layout of a text reads as the text
 pub layout_reads : (text : PItems) → allowed.Allowed text → Reads (Layout text) text
 layout_reads text h =
-    let d = (lines_does text h).run blank [] (refl, λ rest us l. l) in
-    let whole : Lexes ((layout.lines text blank).written ++ []) (tokens.items text ++ []) = d.1 [] [] (Done [] [] refl refl) in
+    let whole : Lexes (Layout text ++ []) (tokens.items text ++ []) = layout_before text h [] [] (Done [] [] refl refl) in
     let bytes : Lexes (Layout text) (tokens.items text ++ []) = subst (λ (z : List ℕ). Lexes z (tokens.items text ++ [])) (append-nil (Layout text)) whole in
     (h, subst (λ (z : Tokens). Lexes (Layout text) z) (append-nil (tokens.items text)) bytes)

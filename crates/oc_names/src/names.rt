@@ -279,15 +279,40 @@ mod tests {
     }
 
     #[test]
-    fn names_are_spelled(rt: HostRuntime) {
+    fn values_are_spelled(rt: HostRuntime) {
         let alloc = rt.alloc();
         assert!(rt; is_spelled(alloc, NameKind::Value, b"Foo'", b"v_Foo'"));
         assert!(rt; is_spelled(alloc, NameKind::Value, b"it's", b"it's"));
+        assert!(rt; is_spelled(alloc, NameKind::Value, b"effect", b"v_effect"));
+        assert!(rt; is_spelled(alloc, NameKind::Value, b"v_x", b"v_v_x"));
+        assert!(rt; is_spelled(alloc, NameKind::Value, b"z_1", b"v_z_1"));
         assert!(rt; is_spelled(alloc, NameKind::Value, b"<>", b"s_lt_gt"));
+        assert!(rt; is_spelled(alloc, NameKind::Value, b"<+>", b"s_lt_plus_gt"));
+        assert!(rt; is_spelled(alloc, NameKind::Value, b"\\`", b"s_backslash_tick"));
+    }
+
+    #[test]
+    fn types_and_constructors_are_spelled(rt: HostRuntime) {
+        let alloc = rt.alloc();
         assert!(rt; is_spelled(alloc, NameKind::TypeName, b"int", b"v_int"));
+        assert!(rt; is_spelled(alloc, NameKind::TypeName, b"option", b"v_option"));
+        assert!(rt; is_spelled(alloc, NameKind::TypeName, b"tree", b"tree"));
         assert!(rt; is_spelled(alloc, NameKind::Constructor, b"nil", b"[]"));
         assert!(rt; is_spelled(alloc, NameKind::Constructor, b"leaf", b"C_leaf"));
+        assert!(rt; is_spelled(alloc, NameKind::Constructor, b"Leaf", b"Leaf"));
+        assert!(rt; is_spelled(alloc, NameKind::Constructor, b"S_x", b"C_S_x"));
+        assert!(rt; is_spelled(alloc, NameKind::Constructor, b"++", b"S_plus_plus"));
+    }
+
+    #[test]
+    fn modules_and_functors_are_spelled(rt: HostRuntime) {
+        let alloc = rt.alloc();
         assert!(rt; is_spelled(alloc, NameKind::Module, b"String", b"C_String"));
+        assert!(rt; is_spelled(alloc, NameKind::Module, b"U1", b"C_U1"));
+        assert!(rt; is_spelled(alloc, NameKind::Module, b"F_Set", b"C_F_Set"));
+        assert!(rt; is_spelled(alloc, NameKind::Module, b"Upper", b"Upper"));
+        assert!(rt; is_spelled(alloc, NameKind::Module, b"low", b"C_low"));
         assert!(rt; is_spelled(alloc, NameKind::Functor, b"Set", b"F_Set"));
+        assert!(rt; is_spelled(alloc, NameKind::Functor, b"F_Set", b"F_F_Set"));
     }
 }

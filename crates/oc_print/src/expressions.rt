@@ -85,7 +85,8 @@ fn arms(pen: &mut Pen, indentation: usize, rows: &[(Pat, Atom)]) -> Result<(), N
     Ok(())
 }
 
-/// An expression. What stands behind `in` and `;` is the next turn of a loop, since rows of bindings are long.
+/// An expression. What stands behind `in`, `;` and the arrow of a `fun` is the next turn of a loop, since such chains
+/// are long.
 #[cycle(expressions)]
 fn full(pen: &mut Pen, exp: &Full) -> Result<(), NoMemory>
     ensures { OnOk result (pen.new ≡ layout.full (plain_full exp.now) pen.old) }
@@ -131,7 +132,15 @@ fn full(pen: &mut Pen, exp: &Full) -> Result<(), NoMemory>
                 pen.body()?;
                 at = rest.get();
             }
-            Full::Is(inner) => return simple(pen, inner),
+            Full::Is(inner) => match inner {
+                Simple::Fun(pattern, rest) => {
+                    pen.name(b"fun")?;
+                    apat(pen, pattern.get())?;
+                    pen.mark(b"->")?;
+                    at = rest.get();
+                }
+                other => return simple(pen, other),
+            },
             Full::If(test, first, other) => {
                 pen.name(b"if")?;
                 atom(pen, test.get())?;
