@@ -1,0 +1,12 @@
+pub mod Ty
+pub mod Env
+pub mod Written
+pub mod Definitions
+pub mod Variables
+pub mod Operators
+pub mod Patterns
+pub mod NonExpansive
+pub mod OcTypes
+pub mod OcText
+pub mod More
+pub mod Examples
