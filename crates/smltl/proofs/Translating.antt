@@ -7,8 +7,8 @@ use Rattle.tl_text.specs.declared.fault.Refusal.{Refusal}
 use Rattle.src_io.specs.Holding.{Holding, Lacks}
 use Rattle.src_io.specs.Reading.{IsRead, SameFiles}
 use Rattle.src_io.specs.Written.{Appends, AppendsFront}
-use Rattle.item_text.specs.Layout.{layout}
-use Rattle.item_text.specs.Written.{rt_tree}
+use Rattle.oc_layout.specs.Layout.{Layout}
+use Rattle.tl_session.specs.Written.{rt_tree}
 use Rattle.tl_session.specs.Answers.{IsTaken, IsFailure}
 use Rattle.tl_session.specs.Faithful.{Standing, no_sources, IsTranslation}
 use Rattle.tl_session.specs.Kept.{Source}
@@ -77,14 +77,14 @@ sources_more told (name ∷ names) [] s here read h =
 sources_more told (name ∷ names) (t ∷ sources) s here read h = (h.0, h.1, sources_more told names sources s here read h.2)
 
 -- before any source there is Rt alone
-written_none : written_for no_sources ≡ layout rt_tree
-written_none = append-nil (layout rt_tree)
+written_none : written_for no_sources ≡ Layout rt_tree
+written_none = append-nil (Layout rt_tree)
 
 pub stopped_at_first : (told : Option Holding) (names : List (List ℕ)) (old : Option (List ℕ))
     → (x : List ℕ) × Translated told names (Err stop.Memory) x × Appends old old x
 stopped_at_first told names old = ([], record { standing = no_sources; translation = translation_none; sources = tt; ending = inl refl }, appends_none old)
 
-pub rt_not_written : (told : Option Holding) (names : List (List ℕ)) (old now : Option (List ℕ)) (text : List ℕ) → text ≡ layout rt_tree → AppendsFront old now text
+pub rt_not_written : (told : Option Holding) (names : List (List ℕ)) (old now : Option (List ℕ)) (text : List ℕ) → text ≡ Layout rt_tree → AppendsFront old now text
     → (x : List ℕ) × Translated told names (Err stop.Writing) x × Appends old now x
 rt_not_written told names old now text is front =
     let P : List ℕ → Type 0 = λ l. Begins l (take front.0 text) in (
@@ -98,7 +98,7 @@ rt_not_written told names old now text is front =
       front.2,
     )
 
-pub rt_written : (old now : Option (List ℕ)) (text : List ℕ) → text ≡ layout rt_tree → Appends old now text → Appends old now (written_for no_sources)
+pub rt_written : (old now : Option (List ℕ)) (text : List ℕ) → text ≡ Layout rt_tree → Appends old now text → Appends old now (written_for no_sources)
 rt_written old now text is h = let P : List ℕ → Type 0 = λ l. Appends old now l in subst P (is ∙ sym written_none) h
 
 -- what is written with one source more

@@ -1,14 +1,13 @@
 -- A declaration of a probe is evaluated in the source as its plain text is.
-use Rattle.std.proofs.Common.{◌≡◌, ℕ, suc, List, [], ◌∷◌, ◌++◌, Option, Some, None, Bool, true, false, refl, sym, ◌∙◌, ap, subst, append-nil}
-use Rattle.std.specs.Prelude.{codes}
+use Rattle.std.proofs.Common.{◌≡◌, ℕ, suc, List, [], ◌++◌, Option, Some, None, refl, sym, ◌∙◌, ap, subst, append-nil}
 use Rattle.tl_text.specs.declared.lit.Lit.{Lit}
 use Rattle.tl_text.specs.declared.lit.Lit.TheVariants as lit
 use Rattle.runs.specs.Tree as run
 use Rattle.runs.specs.Env as text
 use Rattle.runs.specs.Primitives as prims
 use Rattle.runs.specs.Meaning as mean
-use Rattle.tl_session.specs.Program.{Exp, Scon, Id, App, Record, Row, Exps, NoExps, MoreExps, Pat, Wild, Var, Dec}
-use Rattle.tl_session.specs.Meaning.{Val, Special, Labelled, Nil, Cons, Prints, Vals, NoVals, MoreVals, State, Env, Res, Done, then_do, found, applied, list_of, eval, eval_all}
+use Rattle.tl_session.specs.Program.{Exp, Scon, Id, App, Record, Row, Exps, NoExps, MoreExps}
+use Rattle.tl_session.specs.Meaning.{Val, Special, Labelled, Nil, Cons, Prints, Vals, NoVals, MoreVals, State, Env, Done, then_do, list_of, eval, eval_all}
 use Rattle.tl_session.specs.Static as sml
 use Rattle.tl_session.specs.Runs.{atom_tree, atom_trees, simple_tree}
 use Rattle.tl_session.specs.Probe.{IsArgument, AreArguments, IsProbing, home_in, homes_in, plain_atom, plain_atoms, plain}

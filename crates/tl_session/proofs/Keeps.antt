@@ -1,14 +1,14 @@
 -- What the sources bind has the images of its types at its homes.
-use Rattle.std.proofs.Common.{◌≡◌, ◌≢◌, ℕ, suc, ◌+◌, ◌<◌, ◌≤◌, ◌^◌, ◌⊎◌, List, [], ◌∷◌, length, Option, Some, None, Bool, true, false, if◌then◌else◌, refl, sym, ◌∙◌, ap, arith, subst, inl, inr}
+use Rattle.std.proofs.Common.{◌≡◌, ℕ, suc, ◌+◌, ◌<◌, ◌≤◌, ◌^◌, ◌⊎◌, List, [], ◌∷◌, length, Some, None, Bool, true, false, if◌then◌else◌, refl, sym, ◌∙◌, ap, arith, subst, inl, inr}
 use Rattle.std.specs.Prelude.{codes}
 use Rattle.std.specs.Str.{bytes_eq}
 use Rattle.std.proofs.lemmas.Slice.Eq.{bytes_eq-Decides}
 use Rattle.item_source.specs.declared.item.SourceItem.{SourceItem}
 use Rattle.item_source.specs.declared.item.SourceItem.TheVariants.{Print, Bind}
 use Rattle.tl_session.specs.Static.{Entry, Basis, bound, print_entry, initial, with_items, type_of}
-use Rattle.tl_session.specs.Kept.{Source, Kept, unit_of, image, basis_from, basis_after}
-use Rattle.tl_session.specs.OcTypes.{Ty, Arrow, string, unit, Env, Empty, AddVal, AddMod, val_at}
-use Rattle.item_text.specs.Written.{base_of, unit_name}
+use Rattle.tl_session.specs.Kept.{Source, Kept, image, basis_from, basis_after}
+use Rattle.tl_session.specs.OcTypes.{Env, Empty, AddVal, AddMod, val_at}
+use Rattle.tl_session.specs.Written.{base_of, unit_name}
 use Rattle.tl_session.proofs.UnitNames.{unit_differs, bytes_same}
 use Rattle.tl_session.proofs.Typed.{items_env, units_env, whole_env, rt_env}
 

@@ -8,5 +8,8 @@ pub mod Units
 pub mod Texts
 pub mod AgreesAll
 pub mod BuiltItems
+pub mod Lawful
+pub mod Reading
+pub mod Bases
 pub mod Translation
 pub mod SessionLemmas

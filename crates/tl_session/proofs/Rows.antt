@@ -1,31 +1,21 @@
 -- The declarations of sources and of a probe are evaluated as their text is, one after another.
-use Rattle.std.proofs.Common.{◌≡◌, ◌≢◌, ℕ, suc, ◌+◌, ◌<◌, ◌≤◌, ◌^◌, ◌⊎◌, List, [], ◌∷◌, ◌++◌, map, length, Option, Some, None, Bool, true, false, if◌then◌else◌, refl, sym, ◌∙◌, ap, subst, append_assoc, inl, inr, arith}
-use Rattle.std.specs.Prelude.{codes}
+use Rattle.std.proofs.Common.{◌≡◌, ℕ, suc, ◌⊎◌, List, [], ◌∷◌, ◌++◌, Some, None, Bool, true, false, if◌then◌else◌, refl, sym, ◌∙◌, ap, subst, inl, inr}
 use Rattle.std.specs.Str.{bytes_eq}
 use Rattle.std.proofs.lemmas.Slice.Eq.{bytes_eq-Decides}
 use Rattle.runs.specs.Tree as run
 use Rattle.runs.specs.Env as text
-use Rattle.runs.specs.Names.{same, same_part}
-use Rattle.runs.specs.Items.{Scope, with_vars, with_struct, inside, ev_items}
+use Rattle.runs.specs.Names.{same_part}
+use Rattle.runs.specs.Items.{Scope, with_vars, ev_items}
 use Rattle.runs.specs.Primitives as prims
 use Rattle.runs.specs.Meaning as mean
-use Rattle.item_source.specs.declared.item.SourceItem.{SourceItem}
-use Rattle.item_source.specs.declared.item.SourceItem.TheVariants.{Print, Bind}
-use Rattle.tl_session.specs.Program.{Exp, Pat, Wild, Var, Dec, dec_of, decs_of}
-use Rattle.tl_session.specs.Meaning.{Val, Special, Prints, State, Env, Res, Done, Deep, Wrong, then_do, eval, matched, run as run_decs, bound}
+use Rattle.tl_session.specs.Program.{Exp, Pat, Var, Dec}
+use Rattle.tl_session.specs.Meaning.{Val, State, Env, Res, Done, Deep, Wrong, then_do, eval, matched, run as run_decs, bound}
 use Rattle.tl_session.specs.Static as sml
-use Rattle.tl_session.specs.Kept.{Source, unit_of, basis_from}
-use Rattle.tl_session.specs.Runs.{const_of, pat_tree, simple_tree, items_run}
-use Rattle.tl_session.specs.Probe.{IsProbe, IsProbing, plain, plain_pat, plain_items, with_name, Homes, home_in, homes_in}
-use Rattle.item_text.specs.Text as tree
-use Rattle.item_text.specs.Written.{items_tree, literal_of, base_of, unit_name}
-use Rattle.tl_session.specs.Faithful.{joined}
-use Rattle.tl_session.proofs.UnitNames.{bytes_same, bytes_differ, unit_differs}
-use Rattle.tl_session.specs.Faithful.{texts_from}
-use Rattle.tl_session.proofs.Typed.{print_path}
-use Rattle.tl_session.proofs.Keeps.{IsBefore, HomesBefore, homes_more}
-use Rattle.tl_session.proofs.Values.{print_value, img, HasVal, Related, same_part-bytes_eq}
-use Rattle.tl_session.proofs.Evaluates.{Does, does, prints}
+use Rattle.tl_session.specs.Runs.{simple_tree, items_run}
+use Rattle.tl_session.specs.Probe.{IsProbe, plain, plain_items, with_name, home_in, homes_in}
+use Rattle.tl_session.proofs.UnitNames.{bytes_same}
+use Rattle.tl_session.proofs.Values.{img, HasVal, Related, same_part-bytes_eq}
+use Rattle.tl_session.proofs.Evaluates.{Does, does}
 
 -- both sides come to their ends, with the same output
 pub record Ran (n : ℕ) (ds : List Dec) (is : run.Items) (env : Env) (c : Scope) (st : State) (s : prims.St) : Type 0 where

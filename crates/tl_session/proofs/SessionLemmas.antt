@@ -1,15 +1,15 @@
 -- What a session keeps when a source is added.
-use Rattle.std.proofs.Common.{◌≡◌, ℕ, ◌+◌, ◌<◌, ◌≤◌, List, [], ◌∷◌, ◌++◌, map, length, refl, sym, ◌∙◌, ap, subst, arith, inl, inr}
+use Rattle.std.proofs.Common.{◌≡◌, ℕ, ◌+◌, ◌<◌, ◌≤◌, List, [], ◌∷◌, ◌++◌, map, length, sym, ◌∙◌, ap, subst, arith, inl, inr}
 use Rattle.std.proofs.lemmas.List.{map-append}
 use Rattle.tl_text.specs.declared.code.Code.{Code}
 use Rattle.tl_text.specs.declared.place.Place.{Place}
 use Rattle.item_source.specs.declared.item.SourceItem.{SourceItem}
-use Rattle.item_source.specs.Source.{IsProgram, Stops}
+use Rattle.item_source.specs.Source.{IsProgram}
 use Rattle.item_source.proofs.Outcomes.{program_no_stop}
 use Rattle.std.specs.List.{flat_map}
 use Rattle.std.proofs.Common.{suc, append_assoc, append-nil}
-use Rattle.item_text.specs.Layout.{layout}
-use Rattle.item_text.specs.Written.{rt_tree, unit_tree, base_of}
+use Rattle.oc_layout.specs.Layout.{Layout}
+use Rattle.tl_session.specs.Written.{rt_tree, unit_tree, base_of}
 use Rattle.tl_session.specs.Answers.{next_text}
 use Rattle.tl_session.specs.Faithful.{Standing, with_source, texts_from, texts_of, bytes_of, IsTranslation}
 use Rattle.tl_session.specs.Kept.{Source}
@@ -52,21 +52,21 @@ counted accepted st total more is count low =
     omega arith
 
 texts_from-more : (k : ℕ) (ss : List Source) (ps : List (List SourceItem)) (s : Source) (p : List SourceItem) → length ps ≡ length ss
-    → flat_map layout (texts_from k (ss ++ s ∷ []) (ps ++ p ∷ [])) ≡ flat_map layout (texts_from k ss ps) ++ layout (unit_tree (k + length ss) (base_of s.name) p)
+    → flat_map Layout (texts_from k (ss ++ s ∷ []) (ps ++ p ∷ [])) ≡ flat_map Layout (texts_from k ss ps) ++ Layout (unit_tree (k + length ss) (base_of s.name) p)
 texts_from-more k [] [] s p same =
-    append-nil (layout (unit_tree k (base_of s.name) p)) ∙ ap (λ n. layout (unit_tree n (base_of s.name) p)) (let e : k ≡ k + 0 = omega arith in e)
+    append-nil (Layout (unit_tree k (base_of s.name) p)) ∙ ap (λ n. Layout (unit_tree n (base_of s.name) p)) (let e : k ≡ k + 0 = omega arith in e)
 texts_from-more k [] (q ∷ ps) s p same = absurd (omega arith)
 texts_from-more k (t ∷ ss) [] s p same = absurd (omega arith)
 texts_from-more k (t ∷ ss) (q ∷ ps) s p same =
-    let first : List ℕ = layout (unit_tree k (base_of t.name) q) in
+    let first : List ℕ = Layout (unit_tree k (base_of t.name) q) in
     ap (λ l. first ++ l) (texts_from-more (suc k) ss ps s p (omega arith))
-    ∙ sym (append_assoc first (flat_map layout (texts_from (suc k) ss ps)) (layout (unit_tree (suc k + length ss) (base_of s.name) p)))
-    ∙ ap (λ n. (first ++ flat_map layout (texts_from (suc k) ss ps)) ++ layout (unit_tree n (base_of s.name) p)) (let e : suc k + length ss ≡ k + suc (length ss) = omega arith in e)
+    ∙ sym (append_assoc first (flat_map Layout (texts_from (suc k) ss ps)) (Layout (unit_tree (suc k + length ss) (base_of s.name) p)))
+    ∙ ap (λ n. (first ++ flat_map Layout (texts_from (suc k) ss ps)) ++ Layout (unit_tree n (base_of s.name) p)) (let e : suc k + length ss ≡ k + suc (length ss) = omega arith in e)
 
 -- the bytes with one source more
 pub bytes_more : (st : Standing) (s : Source) (p : List SourceItem) → length st.programs ≡ length st.sources
-    → bytes_of (texts_of (with_source st s p)) ≡ bytes_of (texts_of st) ++ layout (next_text st s p)
+    → bytes_of (texts_of (with_source st s p)) ≡ bytes_of (texts_of st) ++ Layout (next_text st s p)
 bytes_more st s p same =
-    ap (λ l. layout rt_tree ++ l) (texts_from-more 1 st.sources st.programs s p same)
-    ∙ sym (append_assoc (layout rt_tree) (flat_map layout (texts_of st)) (layout (unit_tree (1 + length st.sources) (base_of s.name) p)))
-    ∙ ap (λ n. (layout rt_tree ++ flat_map layout (texts_of st)) ++ layout (unit_tree n (base_of s.name) p)) (let e : 1 + length st.sources ≡ suc (length st.sources) = omega arith in e)
+    ap (λ l. Layout rt_tree ++ l) (texts_from-more 1 st.sources st.programs s p same)
+    ∙ sym (append_assoc (Layout rt_tree) (flat_map Layout (texts_of st)) (Layout (unit_tree (1 + length st.sources) (base_of s.name) p)))
+    ∙ ap (λ n. (Layout rt_tree ++ flat_map Layout (texts_of st)) ++ Layout (unit_tree n (base_of s.name) p)) (let e : 1 + length st.sources ≡ suc (length st.sources) = omega arith in e)

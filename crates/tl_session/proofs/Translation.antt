@@ -1,29 +1,32 @@
 -- Accepted sources and their texts are a translation.
-use Rattle.std.proofs.Common.{◌≡◌, ◌≢◌, ℕ, zero, suc, ◌+◌, ◌<◌, ◌≤◌, ◌^◌, ◌⊎◌, List, [], ◌∷◌, ◌++◌, length, take, drop, refl, sym, ◌∙◌, ap, subst, arith, inl, inr, append_assoc, append-nil}
+use Rattle.std.proofs.Common.{◌≡◌, ℕ, zero, suc, ◌<◌, ◌≤◌, ◌^◌, ◌⊎◌, List, [], ◌∷◌, ◌++◌, length, take, drop, refl, sym, ◌∙◌, ap, subst, arith, inl, inr, append_assoc, append-nil}
 use Rattle.std.proofs.Math.Seq.{take-length}
 use Rattle.std.proofs.Common.{length-append}
-use Rattle.std.specs.List.{AllByRecursion, flat_map}
+use Rattle.std.specs.List.{flat_map}
 use Rattle.std.proofs.lemmas.List.{take-append-drop}
 use Rattle.tl_text.specs.declared.code.Code.{Code}
 use Rattle.tl_text.specs.declared.place.Place.{Place}
 use Rattle.item_source.specs.declared.item.SourceItem.{SourceItem}
 use Rattle.item_source.specs.Source.{IsProgram}
-use Rattle.item_text.specs.Layout.{layout}
-use Rattle.item_text.specs.Reads.{Reads, End}
-use Rattle.item_text.specs.Text.{Items, NoItems, Let, Alias, Module, join}
-use Rattle.item_text.specs.Written.{base_of, unit_tree, rt_tree}
-use Rattle.item_text.proofs.Units.{unit_is_text, rt_is_text, reads_joined}
+use Rattle.oc_layout.specs.Layout.{Layout}
+use Rattle.oc_rules.specs.Reads.{Reads}
+use Rattle.oc_rules.specs.Lexes.{Done}
+use Rattle.oc_mirror.proofs.OneText.{one_text}
+use Rattle.oc_ast.specs.Plain.{PItems, NoItems, MoreItems}
+use Rattle.tl_session.specs.Written.{base_of, unit_tree, rt_tree, join}
+use Rattle.tl_session.proofs.Lawful.{unit_allowed, rt_allowed}
+use Rattle.tl_session.proofs.Reading.{reads_joined}
 use Rattle.tl_session.specs.Kept.{Source, unit_of}
 use Rattle.tl_session.specs.OcTypes as oc
 use Rattle.tl_session.specs.Program.{Dec, decs_of}
 use Rattle.tl_session.specs.Refused.{Fails, Accepted}
 use Rattle.tl_session.specs.Runs.{Agrees}
-use Rattle.tl_session.specs.Faithful.{AreRead, texts_from, joined, whole, bytes_of, Faithful, Standing, texts_of, with_source, IsTranslation}
-use Rattle.tl_session.proofs.Typed.{items_env, units_env, whole_env, whole_types, rt_env}
+use Rattle.tl_session.specs.Faithful.{AreRead, texts_from, joined, whole, bytes_of, Faithful, Standing, with_source, IsTranslation}
+use Rattle.tl_session.proofs.Typed.{items_env, units_env, whole_env, whole_types}
 use Rattle.tl_session.proofs.Keeps.{whole_kept}
 use Rattle.tl_session.proofs.Texts.{AllLeavePrint}
 use Rattle.tl_session.proofs.AgreesAll.{probe_agrees}
-use Rattle.tl_session.proofs.BuiltItems.{front_built, front_leaves}
+use Rattle.tl_session.proofs.BuiltItems.{front_leaves}
 
 -- sources that are accepted, with their programs
 pub record Given (ss : List Source) (ps : List (List SourceItem)) : Type 0 where
@@ -38,21 +41,19 @@ leave_print [] (p ∷ ps) h = absurd h
 leave_print (s ∷ ss) [] h = absurd h
 leave_print (s ∷ ss) (p ∷ ps) h = (front_leaves p s.bytes [] h.0, leave_print ss ps h.1)
 
-units_read : (k : ℕ) (ss : List Source) (ps : List (List SourceItem)) → AreRead ss ps → Reads (flat_map layout (texts_from k ss ps)) (joined (texts_from k ss ps))
-units_read k [] ps h = record { text = tt; tokens = End }
+units_read : (k : ℕ) (ss : List Source) (ps : List (List SourceItem)) → AreRead ss ps → Reads (flat_map Layout (texts_from k ss ps)) (joined (texts_from k ss ps))
+units_read k [] ps h = (tt, Done [] [] refl refl)
 units_read k (s ∷ ss) [] h = absurd h
 units_read k (s ∷ ss) (p ∷ ps) h =
-    reads_joined (unit_tree k (base_of s.name) p) (joined (texts_from (suc k) ss ps)) (flat_map layout (texts_from (suc k) ss ps))
-    (unit_is_text k s.name p (front_built p s.bytes [] h.0)) (units_read (suc k) ss ps h.1)
+    reads_joined (unit_tree k (base_of s.name) p) (joined (texts_from (suc k) ss ps)) (flat_map Layout (texts_from (suc k) ss ps))
+    (unit_allowed k s.name s.bytes p h.0) (units_read (suc k) ss ps h.1)
 
 whole_read : (ss : List Source) (ps : List (List SourceItem)) → AreRead ss ps → Reads (bytes_of (texts_from 1 ss ps)) (whole (texts_from 1 ss ps))
-whole_read ss ps h = reads_joined rt_tree (joined (texts_from 1 ss ps)) (flat_map layout (texts_from 1 ss ps)) rt_is_text (units_read 1 ss ps h)
+whole_read ss ps h = reads_joined rt_tree (joined (texts_from 1 ss ps)) (flat_map Layout (texts_from 1 ss ps)) rt_allowed (units_read 1 ss ps h)
 
-join-none : (a : Items) → join a NoItems ≡ a
+join-none : (a : PItems) → join a NoItems ≡ a
 join-none NoItems = refl
-join-none (Let p e rest) = ap (Let p e) (join-none rest)
-join-none (Alias a b rest) = ap (Alias a b) (join-none rest)
-join-none (Module m inner rest) = ap (Module m inner) (join-none rest)
+join-none (MoreItems i rest) = ap (MoreItems i) (join-none rest)
 
 -- the whole of accepted sources is faithful
 pub all_faithful : (ss : List Source) (ps : List (List SourceItem)) → Given ss ps → Faithful ss ps (texts_from 1 ss ps) (whole_env ss ps)
@@ -62,11 +63,12 @@ all_faithful ss ps g =
       accepted = g.accepted;
       read = g.read;
       reads = whole_read ss ps g.read;
+      alone = λ other r. one_text (bytes_of (texts_from 1 ss ps)) other (whole (texts_from 1 ss ps)) r (whole_read ss ps g.read);
       types = whole_types ss ps g.low;
       kept = whole_kept ss ps g.low;
       agrees =
           (let P : List Dec → Type 0 = λ ds. Agrees ds (whole (texts_from 1 ss ps)) in
-          let Q : Items → Type 0 = λ t. Agrees (decs_of ps ++ []) t in
+          let Q : PItems → Type 0 = λ t. Agrees (decs_of ps ++ []) t in
           subst P (append-nil (decs_of ps)) (subst Q (join-none (whole (texts_from 1 ss ps))) (probe_agrees ss ps [] g.same g.low leave tt)));
       probed = λ probe is. probe_agrees ss ps probe g.same g.low leave is;
     }
@@ -123,7 +125,7 @@ is_translation ss ps g = record {
   each_program = g.same;
   envs = λ i. whole_env (take i ss) (take i ps);
   faithful = λ i low.
-      let P : List Items → Type 0 = λ ts. Faithful (take i ss) (take i ps) ts (whole_env (take i ss) (take i ps)) in
+      let P : List PItems → Type 0 = λ ts. Faithful (take i ss) (take i ps) ts (whole_env (take i ss) (take i ps)) in
       subst P (sym (texts_take i 1 ss ps g.read)) (all_faithful (take i ss) (take i ps) (given_take i ss ps g));
   grows = λ i low. units_grow i 1 ss ps _ g.read low;
 }

@@ -1,15 +1,14 @@
 -- The written text types, and what it binds.
-use Rattle.std.proofs.Common.{◌≡◌, ◌≢◌, ℕ, suc, ◌+◌, ◌<◌, ◌≤◌, ◌^◌, List, [], ◌∷◌, length, Option, Some, None, Bool, true, false, refl, sym, ◌∙◌, ap, arith, subst, inl, inr}
+use Rattle.std.proofs.Common.{◌≡◌, ℕ, suc, ◌+◌, ◌<◌, ◌^◌, List, [], ◌∷◌, length, Option, Some, true, false, refl, sym, ◌∙◌, ap, arith, subst, inl, inr}
 use Rattle.std.specs.Prelude.{codes}
-use Rattle.std.specs.Str.{bytes_eq}
 use Rattle.std.proofs.lemmas.Slice.Eq.{bytes_eq-Decides}
 use Rattle.item_source.specs.declared.item.SourceItem.{SourceItem}
 use Rattle.item_source.specs.declared.item.SourceItem.TheVariants.{Print, Bind}
 use Rattle.tl_session.specs.Static as sml
 use Rattle.tl_session.specs.Kept.{Source, unit_of, image}
-use Rattle.tl_session.specs.OcTypes.{Ty, Arrow, int, string, unit, Env, Empty, AddVal, AddType, AddMod, val_at, type_at, over, HasInstance, IsClosed, AllClosed, LiteralHas, ItemsBind, ModuleNotIn, predefined, OcText, inst}
-use Rattle.item_text.specs.Text as text
-use Rattle.item_text.specs.Written.{rt_tree, item_tree, items_tree, literal_of, base_of, unit_name, unit_tree}
+use Rattle.tl_session.specs.OcTypes.{Ty, Arrow, int, string, unit, Env, Empty, AddVal, AddType, AddMod, val_at, over, HasInstance, LiteralHas, ItemsBind, ModuleNotIn, predefined, OcText, inst}
+use Rattle.oc_ast.specs.Plain.{NoItems, MoreItems}
+use Rattle.tl_session.specs.Written.{word_item, print_item, items_tree, literal_of, base_of, unit_name}
 use Rattle.tl_session.specs.Faithful.{texts_from, joined, whole}
 use Rattle.tl_session.proofs.UnitNames.{unit_number}
 use Rattle.tl_text.specs.declared.lit.Lit.{Lit}
@@ -76,11 +75,15 @@ literal_inst us (lit.Text t) = refl
 items_bind : (g : Env) (is : List SourceItem) → val_at print_path g ≡ Some (Arrow string unit) → ItemsBind g (items_tree is) (items_env is Empty)
 items_bind g [] h = refl
 items_bind g (Print t ∷ is) h =
-    (unit, inr tt, (0, λ v one low. (string, has_print g h, refl)), items_env is Empty, items_bind g is h, sym (over-empty (items_env is Empty)))
+    (Empty, (unit, inr tt, (0, λ v one low. (string, has_print g h, refl)), refl), items_env is Empty, items_bind g is h, sym (over-empty (items_env is Empty)))
 items_bind g (Bind x l ∷ is) h = (
-  image (sml.type_of l),
-  inl tt,
-  (0, λ v one low. let P : Ty → Type 0 = λ t. LiteralHas (literal_of l) t in subst P (sym (literal_inst _ l)) (literal_has l)),
+  AddVal x (image (sml.type_of l)) Empty,
+  (
+    image (sml.type_of l),
+    inl tt,
+    (0, λ v one low. let P : Ty → Type 0 = λ t. LiteralHas (literal_of l) t in subst P (sym (literal_inst _ l)) (literal_has l)),
+    refl,
+  ),
   items_env is Empty,
   items_bind (AddVal x (image (sml.type_of l)) g) is h,
   items_env-over is (AddVal x (image (sml.type_of l)) Empty),
@@ -110,9 +113,8 @@ units_bind : (g : Env) (k : ℕ) (ss : List Source) (ps : List (List SourceItem)
 units_bind g k [] ps low h = refl
 units_bind g k (s ∷ ss) [] low h = refl
 units_bind g k (s ∷ ss) (p ∷ ps) low h = (
-  items_env p Empty,
-  items_bind g p h,
-  unit_not_in k (suc k) (base_of s.name) ss ps (omega arith) (omega arith),
+  AddMod (unit_of k s) (items_env p Empty) Empty,
+  (items_env p Empty, items_bind g p h, unit_not_in k (suc k) (base_of s.name) ss ps (omega arith) (omega arith), refl),
   units_env (suc k) ss ps Empty,
   units_bind (AddMod (unit_of k s) (items_env p Empty) g) (suc k) ss ps (omega arith) h,
   units_env-over (suc k) ss ps (AddMod (unit_of k s) (items_env p Empty) Empty),
@@ -129,24 +131,25 @@ whole_env ss ps = units_env 1 ss ps (AddMod (codes "Rt") rt_env Empty)
 -- a whole text types
 pub whole_types : (ss : List Source) (ps : List (List SourceItem)) → suc (length ss) < 2 ^ 64 → OcText (whole (texts_from 1 ss ps)) (whole_env ss ps)
 whole_types ss ps low = (
-  rt_env,
-  rt_binds,
-  rt_not_in 1 ss ps,
+  AddMod (codes "Rt") rt_env Empty,
+  (rt_env, rt_binds, rt_not_in 1 ss ps, refl),
   units_env 1 ss ps Empty,
   units_bind (AddMod (codes "Rt") rt_env predefined) 1 ss ps (omega arith) refl,
   units_env-over 1 ss ps (AddMod (codes "Rt") rt_env Empty),
 ) where
-  rt_binds : ItemsBind predefined (text.Alias (codes "word") (codes "int")
-      (text.Let (text.VarPat (codes "print")) (text.Fun (text.VarPat (codes "s")) (text.Call (text.Val (codes "print_string" ∷ [])) (text.Val (codes "s" ∷ [])))) text.NoItems)) rt_env
+  rt_binds : ItemsBind predefined (MoreItems word_item (MoreItems print_item NoItems)) rt_env
   rt_binds = (
-    int,
-    refl,
-    tt,
+    AddType (codes "word") int Empty,
+    (int, refl, (tt, tt), refl),
     AddVal (codes "print") (Arrow string unit) Empty,
     (
-      Arrow string unit,
-      inl tt,
-      (0, λ v one low. (string, unit, tt, (string, ((λ i. unit), (λ i. tt), refl), ((λ i. unit), (λ i. tt), refl)), refl)),
+      AddVal (codes "print") (Arrow string unit) Empty,
+      (
+        Arrow string unit,
+        inl tt,
+        (0, λ v one low. (string, unit, tt, AddVal (codes "s") string Empty, refl, (string, ((λ i. unit), (λ i. tt), refl), ((λ i. unit), (λ i. tt), refl)), refl)),
+        refl,
+      ),
       Empty,
       refl,
       refl,

@@ -1,24 +1,21 @@
 -- A unit is evaluated as its source, and what it leaves is at the homes.
-use Rattle.std.proofs.Common.{◌≡◌, ◌≢◌, ℕ, suc, ◌+◌, ◌<◌, ◌≤◌, ◌^◌, ◌⊎◌, List, [], ◌∷◌, ◌++◌, map, length, Option, Some, None, Bool, true, false, if◌then◌else◌, refl, sym, ◌∙◌, ap, subst, append_assoc, inl, inr, arith}
+use Rattle.std.proofs.Common.{◌≡◌, ℕ, suc, ◌⊎◌, List, [], ◌∷◌, ◌++◌, map, Some, Bool, true, false, if◌then◌else◌, refl, sym, ◌∙◌, ap, subst, inl, inr}
 use Rattle.std.specs.Prelude.{codes}
 use Rattle.std.specs.Str.{bytes_eq}
 use Rattle.std.proofs.lemmas.Slice.Eq.{bytes_eq-Decides}
 use Rattle.tl_text.specs.declared.lit.Lit.{Lit}
-use Rattle.tl_text.specs.declared.lit.Lit.TheVariants.{Text}
 use Rattle.runs.specs.Tree as run
 use Rattle.runs.specs.Env as text
-use Rattle.runs.specs.Names.{same, same_part}
 use Rattle.runs.specs.Items.{Scope, with_vars, with_struct, inside, ev_items}
 use Rattle.runs.specs.Primitives as prims
 use Rattle.runs.specs.Meaning as mean
 use Rattle.item_source.specs.declared.item.SourceItem.{SourceItem}
 use Rattle.item_source.specs.declared.item.SourceItem.TheVariants.{Print, Bind}
-use Rattle.tl_session.specs.Program.{Dec, dec_of, decs_of}
-use Rattle.tl_session.specs.Meaning.{Val, Special, Labelled, NoVals, Prints, State, Env, Res, Done, then_do, eval, applied, found, run as run_decs, bound}
+use Rattle.tl_session.specs.Program.{dec_of}
+use Rattle.tl_session.specs.Meaning.{Val, Special, Labelled, NoVals, Prints, State, Env, Done, then_do, eval, found, run as run_decs, bound}
 use Rattle.tl_session.specs.Static as sml
-use Rattle.tl_session.specs.Kept.{Source, unit_of, basis_from}
-use Rattle.tl_session.specs.Runs.{const_of, items_run}
-use Rattle.item_text.specs.Written.{items_tree, literal_of, base_of, unit_name}
+use Rattle.tl_session.specs.Runs.{items_run}
+use Rattle.tl_session.specs.Written.{items_tree}
 use Rattle.tl_session.proofs.UnitNames.{bytes_same}
 use Rattle.tl_session.proofs.Typed.{print_path}
 use Rattle.tl_session.proofs.Values.{print_value, img, HasVal, Related, same_part-bytes_eq}

@@ -1,5 +1,5 @@
 -- Values of the source, their types, and their images in the text.
-use Rattle.std.proofs.Common.{◌≡◌, ℕ, List, [], ◌∷◌, Option, Some, None, Bool, true, false, ◌&&◌, nat_eq, if◌then◌else◌, refl, sym, ◌∙◌, ap}
+use Rattle.std.proofs.Common.{◌≡◌, ℕ, List, [], ◌∷◌, Some, Bool, true, false, ◌&&◌, nat_eq, if◌then◌else◌, refl}
 use Rattle.std.specs.Prelude.{codes}
 use Rattle.std.specs.Str.{bytes_eq}
 use Rattle.runs.specs.Tree as run
@@ -9,7 +9,7 @@ use Rattle.runs.specs.Env as text
 use Rattle.tl_session.specs.Meaning.{Val, Special, Labelled, Nil, Cons, Prints, Vals, NoVals, MoreVals, Env}
 use Rattle.tl_session.specs.Static as sml
 use Rattle.tl_session.specs.Runs.{const_of}
-use Rattle.item_text.specs.Written.{literal_of}
+use Rattle.tl_session.specs.Written.{literal_of}
 
 -- Rt.print, as it is finished: fun s -> print_string s
 abbrev pub print_value : run.Val

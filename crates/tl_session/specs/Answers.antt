@@ -1,19 +1,18 @@
 -- What a session is after a source, and what it answers.
 use Rattle.std.specs.Prelude.{◌≡◌, ℕ, suc, List, [], length, Result, MatchResult}
 use Rattle.tl_text.specs.declared.fault.Fault.{Fault}
-use Rattle.tl_text.specs.declared.fault.Fault.TheVariants as fault
 use Rattle.tl_text.specs.declared.fault.Refusal.{Refusal}
 use Rattle.item_source.specs.declared.item.SourceItem.{SourceItem}
 use Rattle.item_source.specs.Source.{IsProgram, IfRefused}
-use Rattle.item_text.specs.Layout.{layout}
-use Rattle.item_text.specs.Text.{Items}
-use Rattle.item_text.specs.Written.{base_of, unit_tree}
+use Rattle.oc_layout.specs.Layout.{Layout}
+use Rattle.oc_ast.specs.Plain.{PItems}
+use Rattle.tl_session.specs.Written.{base_of, unit_tree}
 use Rattle.tl_session.specs.Faithful.{Standing, with_source}
 use Rattle.tl_session.specs.Kept.{Source}
 use Rattle.tl_session.specs.Refused.{Fails}
 
 -- the tree of the text of a further source with this program
-abbrev pub next_text : Standing → Source → List SourceItem → Items
+abbrev pub next_text : Standing → Source → List SourceItem → PItems
 next_text s source program = unit_tree (suc (length s.sources)) (base_of source.name) program
 
 -- The source is taken: it is a program, and the text is the layout of its tree; there are no notes.
@@ -21,7 +20,7 @@ pub record IsTaken (before : Standing) (source : Source) (after : Standing) (tex
   pub program : List SourceItem
   pub read : IsProgram source.bytes program
   pub standing : after ≡ with_source before source program
-  pub text_is : text ≡ layout (next_text before source program)
+  pub text_is : text ≡ Layout (next_text before source program)
   pub no_notes : notes ≡ []
 
 -- the source fails where the refusal says

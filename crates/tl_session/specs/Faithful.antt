@@ -4,15 +4,15 @@ use Rattle.std.specs.List.{flat_map}
 use Rattle.item_source.specs.declared.item.SourceItem.{SourceItem}
 use Rattle.item_source.specs.Source.{IsProgram}
 use Rattle.tl_session.specs.Kept.{Source, Kept, basis_after}
-use Rattle.item_text.specs.Layout.{layout}
+use Rattle.oc_layout.specs.Layout.{Layout}
 use Rattle.tl_session.specs.OcTypes as oc
 use Rattle.tl_session.specs.Probe.{IsProbe, homes_in, plain_items}
 use Rattle.tl_session.specs.Program.{Dec, decs_of}
-use Rattle.item_text.specs.Reads.{Reads}
+use Rattle.oc_rules.specs.Reads.{Reads}
 use Rattle.tl_session.specs.Refused.{Accepted}
 use Rattle.tl_session.specs.Runs.{Agrees}
-use Rattle.item_text.specs.Text.{Items, NoItems, join}
-use Rattle.item_text.specs.Written.{rt_tree, base_of, unit_tree}
+use Rattle.oc_ast.specs.Plain.{PItems, NoItems}
+use Rattle.tl_session.specs.Written.{rt_tree, base_of, unit_tree, join}
 
 -- each source is its program, one by one
 abbrev pub AreRead : List Source → List (List SourceItem) → Type 0
@@ -21,36 +21,38 @@ AreRead (source ∷ sources) (program ∷ programs) = IsProgram source.bytes pro
 AreRead _ _ = ⊥
 
 -- the texts of sources with these programs, from number k on
-abbrev pub texts_from : ℕ → List Source → List (List SourceItem) → List Items
+abbrev pub texts_from : ℕ → List Source → List (List SourceItem) → List PItems
 texts_from k (s ∷ sources) (p ∷ programs) = unit_tree k (base_of s.name) p ∷ texts_from (suc k) sources programs
 texts_from k _ _ = []
 
 -- texts one after another
-abbrev pub joined : List Items → Items
+abbrev pub joined : List PItems → PItems
 joined [] = NoItems
 joined (text ∷ texts) = join text (joined texts)
 
 -- Rt and the texts after it, as one text
-abbrev pub whole : List Items → Items
+abbrev pub whole : List PItems → PItems
 whole texts = join rt_tree (joined texts)
 
 -- the bytes of Rt and of the texts after it
-abbrev pub bytes_of : List Items → List ℕ
-bytes_of texts = layout rt_tree ++ flat_map layout texts
+abbrev pub bytes_of : List PItems → List ℕ
+bytes_of texts = Layout rt_tree ++ flat_map Layout texts
 
 -- for each probe, the sources with it after them agree with the text with its plain text after it
-abbrev pub Probed : List Source → List (List SourceItem) → Items → Type 0
+abbrev pub Probed : List Source → List (List SourceItem) → PItems → Type 0
 Probed sources programs text =
     (probe : List Dec) → IsProbe (basis_after sources programs) probe
     → Agrees (decs_of programs ++ probe) (join text (plain_items (homes_in (basis_after sources programs)) probe))
 
 -- The texts are faithful to the sources, which have these programs; env is what the texts bind.
-pub record Faithful (sources : List Source) (programs : List (List SourceItem)) (texts : List Items) (env : oc.Env) : Type 0 where
+pub record Faithful (sources : List Source) (programs : List (List SourceItem)) (texts : List PItems) (env : oc.Env) : Type 0 where
   -- the sources are accepted, and are these programs
   pub accepted : Accepted sources
   pub read : AreRead sources programs
   -- the bytes are the text
   pub reads : Reads (bytes_of texts) (whole texts)
+  -- and no other one
+  pub alone : (other : PItems) → Reads (bytes_of texts) other → other ≡ whole texts
   -- the text types
   pub types : oc.OcText (whole texts) env
   -- each variable has the image of its type at its home
@@ -66,7 +68,7 @@ pub record Standing : Type 0 where
   pub programs : List (List SourceItem)
 
 -- the trees of its texts, one for each source
-abbrev pub texts_of : Standing → List Items
+abbrev pub texts_of : Standing → List PItems
 texts_of s = texts_from 1 s.sources s.programs
 
 -- before any source

@@ -1,9 +1,9 @@
 -- The interface of sources in the environment of their text.
-use Rattle.std.specs.Prelude.{◌≡◌, ℕ, suc, List, [], ◌∷◌, Option, Some}
+use Rattle.std.specs.Prelude.{◌≡◌, ℕ, suc, List, ◌∷◌, Some}
 use Rattle.item_source.specs.declared.item.SourceItem.{SourceItem}
 use Rattle.tl_session.specs.Static as sml
 use Rattle.tl_session.specs.OcTypes as oc
-use Rattle.item_text.specs.Written.{base_of, unit_name}
+use Rattle.tl_session.specs.Written.{base_of, unit_name}
 
 -- a source: its name and its bytes
 pub record Source : Type 0 where

@@ -1,4 +1,5 @@
 pub mod Program
+pub mod Written
 pub mod Meaning
 pub mod Static
 pub mod OcTypes

@@ -1,7 +1,10 @@
 -- The types of the written text: let polymorphism with guessed types, for the forms that are written (the OCaml manual, chapters 11.7 to 11.12).
-use Rattle.std.specs.Prelude.{◌≡◌, ◌≢◌, ◌⊎◌, ℕ, suc, ◌≤◌, Bool, List, [], ◌∷◌, Option, Some, None, if◌then◌else◌, codes}
+use Rattle.std.specs.Prelude.{◌≡◌, ◌≢◌, ◌⊎◌, ℕ, ◌≤◌, List, [], ◌∷◌, Option, Some, None, if◌then◌else◌, codes}
 use Rattle.std.specs.Str.{bytes_eq}
-use Rattle.item_text.specs.Text.{Literal, Int, Char, String, Atom, Const, Val, UnitAtom, TupleAtom, ItemsAtom, Atoms, NoAtoms, MoreAtoms, Pat, AnyPat, VarPat, Simple, One, Call, Fun, Items, NoItems, Let, Alias, Module}
+use Rattle.oc_ast.specs.declared.literal.OcLit.{OcLit}
+use Rattle.oc_ast.specs.declared.literal.OcLit.TheVariants.{Int, Char, Text}
+use Rattle.oc_ast.specs.Plain.{POTy, TAt, TCon, PTDef, Alias, Variant, PPat, PAt, PAPat, Any, PVar, PAtom, Const, Val, Paren, Nothing, Items, PAtoms, NoAtoms, MoreAtoms, PSimple, One, Call, Fun, PFull, Is, PItem, Let, Types, Module, Sealed, Functor, PItems, NoItems, MoreItems, PMExp, Struct}
+use Rattle.oc_ast.specs.Plain as tree
 
 mutual
   pub data Ty : Type 0 where
@@ -98,90 +101,135 @@ abbrev pub HasInstance : Option Ty → Ty → Type 0
 HasInstance None t = ⊥
 HasInstance (Some scheme) t = Instance scheme t
 
-abbrev pub LiteralHas : Literal → Ty → Type 0
+abbrev pub LiteralHas : OcLit → Ty → Type 0
 LiteralHas (Int z) t = t ≡ int
 LiteralHas (Char c) t = t ≡ char
-LiteralHas (String bytes) t = t ≡ string
+LiteralHas (Text bytes) t = t ≡ string
+
+-- Below, what a form that is not written yet has: no type, so that a text with it does not type.
+
+-- at a type the pattern binds d
+abbrev pub APatBinds : PAPat → Ty → Env → Type 0
+APatBinds Any t d = d ≡ Empty
+APatBinds (PVar x) t d = d ≡ AddVal x t Empty
+APatBinds _ t d = ⊥
+
+abbrev pub PatBinds : PPat → Ty → Env → Type 0
+PatBinds (PAt p) t d = APatBinds p t d
+PatBinds _ t d = ⊥
 
 abbrev mutual
-  pub AtomHas : Env → Atom → Ty → Type 0
+  pub AtomHas : Env → PAtom → Ty → Type 0
   AtomHas g (Const l) t = LiteralHas l t
   AtomHas g (Val path) t = HasInstance (val_at path g) t
-  AtomHas g UnitAtom t = t ≡ unit
-  AtomHas g (TupleAtom parts) t = (ts : Tys) × AtomsHave g parts ts × (t ≡ Tuple ts)
-  AtomHas g (ItemsAtom parts) t = (u : Ty) × AllAtomsHave g parts u × (t ≡ list u)
+  AtomHas g Nothing t = t ≡ unit
+  AtomHas g (tree.Tuple a more) t = (u : Ty) × (ts : Tys) × AtomHas g a u × AtomsHave g more ts × (t ≡ Tuple (MoreTys u ts))
+  AtomHas g (Items parts) t = (u : Ty) × AllAtomsHave g parts u × (t ≡ list u)
+  AtomHas g (tree.Con path) t = ⊥
+  AtomHas g (Paren e) t = ⊥
 
-  pub AtomsHave : Env → Atoms → Tys → Type 0
+  pub AtomsHave : Env → PAtoms → Tys → Type 0
   AtomsHave g NoAtoms NoTys = Unit {0}
   AtomsHave g (MoreAtoms a more) (MoreTys t ts) = AtomHas g a t × AtomsHave g more ts
   AtomsHave g NoAtoms (MoreTys t ts) = ⊥
   AtomsHave g (MoreAtoms a more) NoTys = ⊥
 
-  pub AllAtomsHave : Env → Atoms → Ty → Type 0
+  pub AllAtomsHave : Env → PAtoms → Ty → Type 0
   AllAtomsHave g NoAtoms u = Unit {0}
   AllAtomsHave g (MoreAtoms a more) u = AtomHas g a u × AllAtomsHave g more u
 
--- what a pattern binds at a type
-abbrev pub with_pat : Pat → Ty → Env → Env
-with_pat AnyPat t g = g
-with_pat (VarPat x) t g = AddVal x t g
+abbrev mutual
+  pub SimpleHas : Env → PSimple → Ty → Type 0
+  SimpleHas g (One a) t = AtomHas g a t
+  SimpleHas g (Call f a) t = (u : Ty) × AtomHas g f (Arrow u t) × AtomHas g a u
+  SimpleHas g (Fun p e) t = (a b : Ty) × IsClosed a × (own : Env) × APatBinds p a own × FullHas (over own g) e b × (t ≡ Arrow a b)
+  SimpleHas g _ t = ⊥
 
-abbrev pub SimpleHas : Env → Simple → Ty → Type 0
-SimpleHas g (One a) t = AtomHas g a t
-SimpleHas g (Call f a) t = (u : Ty) × AtomHas g f (Arrow u t) × AtomHas g a u
-SimpleHas g (Fun p e) t = (a b : Ty) × IsClosed a × SimpleHas (with_pat p a g) e b × (t ≡ Arrow a b)
+  pub FullHas : Env → PFull → Ty → Type 0
+  FullHas g (Is e) t = SimpleHas g e t
+  FullHas g _ t = ⊥
 
 abbrev mutual
   -- a literal, a path, a function, or a tuple or list of such: what a let may generalise
-  pub IsStillAtom : Atom → Type 0
-  IsStillAtom (TupleAtom parts) = AreStillAtoms parts
-  IsStillAtom (ItemsAtom parts) = AreStillAtoms parts
+  pub IsStillAtom : PAtom → Type 0
+  IsStillAtom (tree.Tuple a more) = IsStillAtom a × AreStillAtoms more
+  IsStillAtom (Items parts) = AreStillAtoms parts
+  IsStillAtom (Paren e) = ⊥
   IsStillAtom _ = Unit {0}
 
-  pub AreStillAtoms : Atoms → Type 0
+  pub AreStillAtoms : PAtoms → Type 0
   AreStillAtoms NoAtoms = Unit {0}
   AreStillAtoms (MoreAtoms a more) = IsStillAtom a × AreStillAtoms more
 
-abbrev pub IsNonExpansive : Simple → Type 0
+abbrev pub IsNonExpansive : PSimple → Type 0
 IsNonExpansive (One a) = IsStillAtom a
-IsNonExpansive (Call f a) = ⊥
 IsNonExpansive (Fun p e) = Unit {0}
+IsNonExpansive _ = ⊥
 
 -- P holds at type variables that stand for themselves and differ, from some number on
 abbrev pub AtFresh : ((ℕ → Ty) → Type 0) → Type 0
 AtFresh P = (k : ℕ) × ((v : ℕ → ℕ) → ((i j : ℕ) → v i ≡ v j → i ≡ j) → ((i : ℕ) → k ≤ v i) → P (λ i. Free (v i)))
 
--- the module name is not bound again among the items
-abbrev pub ModuleNotIn : List ℕ → Items → Type 0
+-- the item binds no module of this name
+abbrev pub LeavesModule : List ℕ → PItem → Type 0
+LeavesModule m (Module n e) = m ≢ n
+LeavesModule m (Sealed n s e) = m ≢ n
+LeavesModule m (Functor n x s e) = m ≢ n
+LeavesModule m _ = Unit {0}
+
+-- the definitions define no type of this name
+abbrev pub LeaveType : List ℕ → List PTDef → Type 0
+LeaveType a [] = Unit {0}
+LeaveType a (Alias vs b t ∷ ds) = (a ≢ b) × LeaveType a ds
+LeaveType a (Variant vs b t cs ∷ ds) = (a ≢ b) × LeaveType a ds
+
+abbrev pub LeavesType : List ℕ → PItem → Type 0
+LeavesType a (Types ds) = LeaveType a ds
+LeavesType a _ = Unit {0}
+
+-- the name is not bound again among the items
+abbrev pub ModuleNotIn : List ℕ → PItems → Type 0
 ModuleNotIn m NoItems = Unit {0}
-ModuleNotIn m (Let p e rest) = ModuleNotIn m rest
-ModuleNotIn m (Alias a b rest) = ModuleNotIn m rest
-ModuleNotIn m (Module n inner rest) = (m ≢ n) × ModuleNotIn m rest
+ModuleNotIn m (MoreItems i rest) = LeavesModule m i × ModuleNotIn m rest
 
--- the type name is not bound again among the items
-abbrev pub TypeNotIn : List ℕ → Items → Type 0
+abbrev pub TypeNotIn : List ℕ → PItems → Type 0
 TypeNotIn a NoItems = Unit {0}
-TypeNotIn a (Let p e rest) = TypeNotIn a rest
-TypeNotIn a (Alias b c rest) = (a ≢ b) × TypeNotIn a rest
-TypeNotIn a (Module n inner rest) = TypeNotIn a rest
+TypeNotIn a (MoreItems i rest) = LeavesType a i × TypeNotIn a rest
 
--- in the environment g the items bind d
-abbrev pub ItemsBind : Env → Items → Env → Type 0
-ItemsBind g NoItems d = d ≡ Empty
-ItemsBind g (Let p e rest) d =
-    (u : Ty) × (IsNonExpansive e ⊎ IsClosed u) × AtFresh (λ us. SimpleHas g e (inst us u))
-    × (r : Env) × ItemsBind (with_pat p u g) rest r × (d ≡ over r (with_pat p u Empty))
-ItemsBind g (Alias a b rest) d =
-    (u : Ty) × (type_at b g ≡ Some u) × TypeNotIn a rest
-    × (r : Env) × ItemsBind (AddType a u g) rest r × (d ≡ over r (AddType a u Empty))
-ItemsBind g (Module m inner rest) d =
-    (b : Env) × ItemsBind g inner b × ModuleNotIn m rest
-    × (r : Env) × ItemsBind (AddMod m b g) rest r × (d ≡ over r (AddMod m b Empty))
+-- the definition of one type without parameters, by the name of a type
+abbrev pub TypeIs : Env → POTy → Ty → Type 0
+TypeIs g (TAt (TCon tree.NoTys (b ∷ []))) u = type_at b g ≡ Some u
+TypeIs g _ u = ⊥
+
+-- the definitions bind d, in the environment g and before these items
+abbrev pub DefinitionsBind : Env → List PTDef → PItems → Env → Type 0
+DefinitionsBind g (Alias [] a t ∷ []) rest d = (u : Ty) × TypeIs g t u × TypeNotIn a rest × (d ≡ AddType a u Empty)
+DefinitionsBind g _ rest d = ⊥
+
+abbrev mutual
+  -- in the environment g the items bind d
+  pub ItemsBind : Env → PItems → Env → Type 0
+  ItemsBind g NoItems d = d ≡ Empty
+  ItemsBind g (MoreItems i rest) d =
+      (own : Env) × ItemBinds g i rest own
+      × (r : Env) × ItemsBind (over own g) rest r × (d ≡ over r own)
+
+  -- in the environment g and before these items the item binds d
+  pub ItemBinds : Env → PItem → PItems → Env → Type 0
+  ItemBinds g (Let p e) rest d = (u : Ty) × (IsNonExpansive e ⊎ IsClosed u) × AtFresh (λ us. SimpleHas g e (inst us u)) × PatBinds p u d
+  ItemBinds g (Types ds) rest d = DefinitionsBind g ds rest d
+  ItemBinds g (Module m e) rest d = (b : Env) × ModuleBinds g e b × ModuleNotIn m rest × (d ≡ AddMod m b Empty)
+  ItemBinds g _ rest d = ⊥
+
+  -- in the environment g the module has d
+  pub ModuleBinds : Env → PMExp → Env → Type 0
+  ModuleBinds g (Struct is) d = ItemsBind g is d
+  ModuleBinds g _ d = ⊥
 
 -- the predefined names, as far as they are used
 abbrev pub predefined : Env
 predefined = AddVal (codes "print_string") (Arrow string unit) (AddType (codes "int") int Empty)
 
 -- the text types, and binds d
-abbrev pub OcText : Items → Env → Type 0
+abbrev pub OcText : PItems → Env → Type 0
 OcText text d = ItemsBind predefined text d

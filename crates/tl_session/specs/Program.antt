@@ -1,5 +1,5 @@
 -- Sources as plain trees of the core language, for the forms that are built and those of a probe (the Definition, section 2.8).
-use Rattle.std.specs.Prelude.{ℕ, List, [], ◌∷◌, map, codes}
+use Rattle.std.specs.Prelude.{ℕ, List, map, codes}
 use Rattle.std.specs.List.{flat_map}
 use Rattle.tl_text.specs.declared.lit.Lit.{Lit}
 use Rattle.tl_text.specs.declared.lit.Lit.TheVariants.{Text}

@@ -1,5 +1,5 @@
 -- The types of sources (the Definition, chapter 4), for the forms that are built and those of a probe, and where their variables are at home.
-use Rattle.std.specs.Prelude.{◌≡◌, ℕ, suc, List, [], ◌∷◌, Option, Some, None, if◌then◌else◌, codes}
+use Rattle.std.specs.Prelude.{◌≡◌, ℕ, List, [], ◌∷◌, Option, Some, None, if◌then◌else◌, codes}
 use Rattle.std.specs.Str.{bytes_eq}
 use Rattle.tl_text.specs.declared.lit.Lit.{Lit}
 use Rattle.tl_text.specs.declared.lit.Lit.TheVariants as lit

@@ -7,6 +7,8 @@
 //! Knows nothing of: files, words of a command line.
 #![tactic(auto)]
 
+mod base;
 mod session;
+mod unit;
 
 pub use session::{Session, Unit};

@@ -2,15 +2,15 @@ ghost use Rattle.std.specs.Prelude.{◌≡◌, ◌<◌, ◌≤◌, ◌+◌, suc,
 ghost use Rattle.tl_text.specs.declared.fault.Refusal.{Refusal};
 ghost use Rattle.tl_text.specs.declared.fault.Fault.TheVariants as fault_is;
 ghost use Rattle.item_source.specs.Source.{IfRefused};
-ghost use Rattle.item_text.specs.Layout.{layout};
-ghost use Rattle.item_text.specs.Written.{rt_tree};
+ghost use Rattle.oc_layout.specs.Layout.{Layout};
 ghost use Rattle.tl_session.specs.Answers.{IsTaken, IsFailure, AnswersFailure};
 ghost use Rattle.tl_session.specs.Faithful.{IsTranslation, no_sources};
 ghost use Rattle.tl_session.specs.Refused.{first_place};
+ghost use Rattle.tl_session.specs.Written.{rt_tree};
 
+use crate::unit::{rt_text, unit_text};
 use bumpalo::Bump;
 use item_source::{SourceItem, read_items};
-use item_text::{rt_text, unit_text};
 use std::alloc::Global;
 use std::marker::Model;
 use tl_text::{Code, Fault, List, Name, NoMemory, Place, Refusal};
@@ -103,7 +103,7 @@ impl<'a> Session<'a> {
 
     /// The text of the module `Rt`, which stands before all units.
     pub fn start(&self) -> Result<Vec<u8>, NoMemory>
-        ensures { IfOk result (λ text. text.items ≡ layout rt_tree) }
+        ensures { IfOk result (λ text. text.items ≡ Layout rt_tree) }
     {
         rt_text(self.alloc)
     }

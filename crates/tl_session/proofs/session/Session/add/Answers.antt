@@ -3,8 +3,12 @@ use Rattle.item_source.specs.declared.item.SourceItem.{SourceItem}
 use Rattle.item_source.specs.Source.{IsProgram}
 use Rattle.tl_session.specs.Sessions.{source_of}
 use Rattle.tl_session.specs.declared.session.Accepted.{Accepted}
+use Rattle.tl_session.proofs.Lawful.{unit_allowed-same}
 use Rattle.tl_session.proofs.SessionLemmas.{passes, translation-push, counted}
 use Rattle.tl_session.proofs.session.Session.add.Goals as goal
+
+pub unit_text-requires : goal.unit_text-requires
+unit_text-requires c = unit_allowed-same _ c.args.name.now c.args.bytes.now _ c.in_ok-program.program c.items-2.ensures c.in_ok-program.ensures.read
 
 pub returns-clause-translation : goal.returns-clause-translation
 returns-clause-translation c = λ t.

@@ -4,7 +4,7 @@ use Rattle.std.specs.List.{list_any}
 use Rattle.std.proofs.lemmas.Bool.{true≢false, eq-eqb, ne_eqb}
 use Rattle.std.proofs.lemmas.List.{append-nil}
 use Rattle.std.proofs.lemmas.List.Folds.{list_any-append}
-use Rattle.item_text.specs.Written.{after_slash, before_dot, plain_byte, base_of}
+use Rattle.tl_session.specs.Written.{after_slash, before_dot, plain_byte, base_of}
 
 abbrev is_slash : ℕ → Bool
 is_slash c = eqb c 47

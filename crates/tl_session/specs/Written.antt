@@ -7,7 +7,10 @@ use Rattle.tl_text.specs.declared.lit.Lit.{Lit}
 use Rattle.tl_text.specs.declared.lit.Lit.TheVariants as lit
 use Rattle.item_source.specs.declared.item.SourceItem.{SourceItem}
 use Rattle.item_source.specs.declared.item.SourceItem.TheVariants.{Print, Bind}
-use Rattle.item_text.specs.Text.{Literal, Int, Char, String, Const, Val, AnyPat, VarPat, One, Call, Fun, Items, NoItems, Let, Alias, Module, join}
+use Rattle.oc_ast.specs.declared.literal.OcLit.{OcLit}
+use Rattle.oc_ast.specs.declared.literal.OcLit.TheVariants as oc
+use Rattle.oc_ast.specs.View.{row_of_items}
+use Rattle.oc_ast.specs.Plain.{TAt, TCon, NoTys, Alias, Any, PVar, PAt, Const, Val, Is, One, Call, Fun, PItem, Let, Types, Module, Struct, PItems, NoItems, MoreItems}
 
 -- what follows the last slash of a name, or the whole name
 abbrev pub after_slash : List ℕ → List ℕ
@@ -32,30 +35,38 @@ abbrev pub unit_name : ℕ → List ℕ → List ℕ
 unit_name k base = 85 ∷ (decimal k ++ 95 ∷ base)
 
 -- the literal of a source's literal; a word is its number
-abbrev pub literal_of : Lit → Literal
-literal_of (lit.Int z) = Int z
-literal_of (lit.Word n) = Int (pos n)
-literal_of (lit.Char c) = Char c
-literal_of (lit.Text bytes) = String bytes
+abbrev pub literal_of : Lit → OcLit
+literal_of (lit.Int z) = oc.Int z
+literal_of (lit.Word n) = oc.Int (pos n)
+literal_of (lit.Char c) = oc.Char c
+literal_of (lit.Text bytes) = oc.Text bytes
 
 -- the item of an item: let _ = Rt.print "s", or let x = literal
-abbrev pub item_tree : SourceItem → Items
-item_tree (Print s) = Let AnyPat (Call (Val (codes "Rt" ∷ codes "print" ∷ [])) (Const (String s))) NoItems
-item_tree (Bind x l) = Let (VarPat x) (One (Const (literal_of l))) NoItems
+abbrev pub item_tree : SourceItem → PItem
+item_tree (Print s) = Let (PAt Any) (Call (Val (codes "Rt" ∷ codes "print" ∷ [])) (Const (oc.Text s)))
+item_tree (Bind x l) = Let (PAt (PVar x)) (One (Const (literal_of l)))
 
 -- the items of a row of items
-abbrev pub items_tree : List SourceItem → Items
-items_tree [] = NoItems
-items_tree (item ∷ rest) = join (item_tree item) (items_tree rest)
+abbrev pub items_tree : List SourceItem → PItems
+items_tree items = row_of_items (map item_tree items)
 
 -- the unit of source k: one module with the items of the source
-abbrev pub unit_tree : ℕ → List ℕ → List SourceItem → Items
-unit_tree k base items = Module (unit_name k base) (items_tree items) NoItems
+abbrev pub unit_tree : ℕ → List ℕ → List SourceItem → PItems
+unit_tree k base items = MoreItems (Module (unit_name k base) (Struct (items_tree items))) NoItems
 
--- the module Rt: type word = int, and let print = fun s -> print_string s
-abbrev pub rt_tree : Items
-rt_tree =
-    Module (codes "Rt")
-    (Alias (codes "word") (codes "int")
-    (Let (VarPat (codes "print")) (Fun (VarPat (codes "s")) (Call (Val (codes "print_string" ∷ [])) (Val (codes "s" ∷ [])))) NoItems))
-    NoItems
+-- type word = int
+abbrev pub word_item : PItem
+word_item = Types (Alias [] (codes "word") (TAt (TCon NoTys (codes "int" ∷ []))) ∷ [])
+
+-- let print = fun s -> print_string s
+abbrev pub print_item : PItem
+print_item = Let (PAt (PVar (codes "print"))) (Fun (PVar (codes "s")) (Is (Call (Val (codes "print_string" ∷ [])) (Val (codes "s" ∷ [])))))
+
+-- the module Rt
+abbrev pub rt_tree : PItems
+rt_tree = MoreItems (Module (codes "Rt") (Struct (MoreItems word_item (MoreItems print_item NoItems)))) NoItems
+
+-- one row of items after another
+abbrev pub join : PItems → PItems → PItems
+join NoItems more = more
+join (MoreItems i rest) more = MoreItems i (join rest more)

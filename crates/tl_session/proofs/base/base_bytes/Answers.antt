@@ -1,9 +1,9 @@
 use Rattle.std.proofs.Common.{◌≡◌, ◌+◌, ◌++◌, ◌∷◌, [], sym, ap, ◌∙◌, take, get_or}
 use Rattle.std.proofs.lemmas.List.{take_more}
-use Rattle.item_text.specs.Written.{base_of}
-use Rattle.item_text.proofs.Bases.{is_cut_in, base_at_slash, cut_at_slash, base_at_dot, cut_at_dot, base_at_other, base_when_cut, cut_at_other}
-use Rattle.item_text.proofs.print.base_bytes.Goals as goal
-use Rattle.item_text.proofs.print.base_bytes.Goals.{then-byte-eq47, else-byte-eq47+then-byte-eq46, else-byte-eq47+else-byte-eq46+then-not-is_cut+in_ok-push, else-byte-eq47+else-byte-eq46+else-not-is_cut}
+use Rattle.tl_session.specs.Written.{base_of}
+use Rattle.tl_session.proofs.Bases.{is_cut_in, base_at_slash, cut_at_slash, base_at_dot, cut_at_dot, base_at_other, base_when_cut, cut_at_other}
+use Rattle.tl_session.proofs.base.base_bytes.Goals as goal
+use Rattle.tl_session.proofs.base.base_bytes.Goals.{then-byte-eq47, else-byte-eq47+then-byte-eq46, else-byte-eq47+else-byte-eq46+then-not-is_cut+in_ok-push, else-byte-eq47+else-byte-eq46+else-not-is_cut}
 
 pub loop-byte-preserved : goal.loop-byte-preserved
 loop-byte-preserved c =
