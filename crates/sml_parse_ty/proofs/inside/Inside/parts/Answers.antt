@@ -1,0 +1,24 @@
+use Rattle.std.proofs.Common.{sym, ◌∙◌}
+use Rattle.std.proofs.lemmas.Result.{err_from_is_err_and}
+use Rattle.readers.specs.Forms.{height_of}
+use Rattle.sml_grammar.specs.Tokens.{is_times}
+use Rattle.sml_grammar.specs.ReadTypes.{con_read}
+use Rattle.sml_scan.proofs.Rows.{seps_turn, seps_smaller, seps_end, seps_item_fails}
+use Rattle.sml_parse_ty.specs.Rows.{ty_tree}
+use Rattle.sml_parse_ty.proofs.Steps.{star_con_less}
+use Rattle.sml_parse_ty.proofs.inside.Inside.parts.Goals as goal
+
+pub returns-in_err-other : goal.returns-in_err-other
+returns-in_err-other g c =
+    let p = err_from_is_err_and c.from_residual-in_err-other.result c.from_residual-in_err-other.ensures.1 in
+    rw (p.1, p.2) (seps_item_fails ty_tree height_of is_times (con_read c.args.room) (star_con_less c.args.room) c.in_err-other.field-0.0 c.items.found c.items.height c.items.rest.now c.in_ok-after.after.now _ c.items.invariant (sym c.is_times.ensures ∙ c.items-test.true) c.in_ok-after.ensures c.in_err-other.ensures)
+
+pub items-smaller : goal.items-smaller
+items-smaller g c = seps_smaller ty_tree height_of is_times (con_read c.args.room) (star_con_less c.args.room) c.items.rest.now c.in_ok-after.after.now (c.in_ok-other.other, c.in_ok-other.after.now) c.in_ok-after.ensures c.in_ok-other.ensures
+
+pub items-preserved : goal.items-preserved
+items-preserved g c =
+    rw (c.in_ok-push-2.ensures.ok, c.higher-height.ensures) (seps_turn ty_tree height_of is_times (con_read c.args.room) (star_con_less c.args.room) c.items.found c.items.height c.items.rest.now c.in_ok-after.after.now (c.in_ok-other.other, c.in_ok-other.after.now) _ c.items.invariant (sym c.is_times.ensures ∙ c.items-test.true) c.in_ok-after.ensures c.in_ok-other.ensures)
+
+pub returns : goal.returns
+returns g c = seps_end ty_tree height_of is_times (con_read c.args.room) (star_con_less c.args.room) c.items.found c.items.height c.items.rest.now _ c.items.invariant (sym c.is_times.ensures ∙ c.items-test.false)

@@ -1,0 +1,72 @@
+ghost use Rattle.std.specs.Prelude.{◌≡◌, ◌<◌, ◌≤◌, ◌^◌, ℕ, length, drop, true, IfOk};
+ghost use Rattle.readers.specs.Reader.{first};
+ghost use Rattle.sml_ast.specs.declared.ty.Ty.{Ty};
+ghost use Rattle.sml_fix.specs.Fixities.{settings};
+ghost use Rattle.sml_parse_ty.specs.Promise as spec;
+
+use crate::inside::ty;
+use readers::ReadError;
+use sml_ast::Ty;
+use sml_fix::Fixities;
+use sml_lex::{Token, Tokens};
+use std::alloc::Global;
+use tl_text::{Code, Fault, NoMemory, Refusal};
+
+/// The type at a place of the tokens, as far as they go on with it, and the number of the token behind it. Types do not
+/// depend on fixities, which stay as they are.
+///
+/// # Errors
+/// - Grammar at the first token with which no type goes on, where the tokens before it are no type.
+/// - Depth at the first token with which no type of the height goes on, but a higher one does.
+/// - NoMemory where none is left.
+pub fn parse_ty(
+    alloc: Global,
+    tokens: &Tokens,
+    at: u32,
+    room: u32,
+    fix: &mut Fixities,
+) -> Result<(Ty, u32), Fault>
+    requires within { at < length tokens.now }
+    requires few { length tokens.now < 2 ^ 32 }
+    requires roomy { 1 ≤ room }
+    // What is given is the type of the tokens up to the next one, and none of any height goes on with that.
+    ensures found { IfOk result (λ x. spec.IsType room tokens.now at x.0 x.1) }
+    // The type of tokens that end it is given, unless memory runs out.
+    ensures only { (t : Ty) (next : ℕ) → spec.Derives room tokens.now at t next → spec.ends (first (drop next tokens.now)) ≡ true → spec.GivesType result t next }
+    // A refusal stands at the first token with which no type of the height goes on, and its code says why.
+    ensures refused { spec.RefusesAs (spec.Refusal room tokens.now at) result }
+    ensures kept { settings fix.new ≡ settings fix.old }
+{
+    let _ = fix;
+    let all = tokens.items();
+    match ty(alloc, room, &all[at as usize..]) {
+        Ok((found, rest)) => {
+            let next = all.len() - rest.len();
+            Ok((found.0, next as u32))
+        }
+        Err(error) => Err(fault(error)),
+    }
+}
+
+/// The fault of a refused token.
+fn fault(error: ReadError<'_, Token>) -> Fault
+    ensures { spec.FaultOf error.entry result }
+{
+    match error {
+        ReadError::Refused(cause, [token, ..]) => Fault::Refused(Refusal {
+            place: token.place,
+            code: named(cause),
+        }),
+        _ => Fault::NoMemory(NoMemory),
+    }
+}
+
+fn named(cause: readers::Code) -> Code
+    ensures { result ≡ spec.named cause }
+{
+    match cause {
+        readers::Code::Grammar => Code::Grammar,
+        readers::Code::Depth => Code::Depth,
+        readers::Code::FixityClash => Code::FixityClash,
+    }
+}
