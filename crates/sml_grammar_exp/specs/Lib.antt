@@ -1,0 +1,2 @@
+pub mod Exps
+pub mod ReadExps

@@ -1,0 +1,4 @@
+pub mod Scope
+pub mod Tokens
+pub mod Reading
+pub mod Inner
