@@ -1,5 +1,0 @@
-pub mod Declarations
-pub mod Expressions
-pub mod Functions
-pub mod Programs
-pub mod Signatures

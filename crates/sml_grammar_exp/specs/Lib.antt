@@ -1,2 +1,0 @@
-pub mod Exps
-pub mod ReadExps

@@ -1,8 +1,0 @@
-use Rattle.std.proofs.Common.{◌≡◌, drop, map}
-use Rattle.sml_restrict_core.specs.Breaches.{after, joined}
-use Rattle.sml_restrict_core.specs.Bindings.{dat_bind_cons}
-use Rattle.sml_restrict_core.specs.Repeats.{crossed}
-use Rattle.sml_restrict_core.proofs.bindings.check_crossed.Given as goal
-
-abbrev pub invariant-loop-i : goal.invariant-loop-i
-invariant-loop-i l = after l.found (crossed (map (λ c. c.1) (drop l.i l.cons)) (joined (map dat_bind_cons l.binds))) ≡ after l.initial.found (crossed (map (λ c. c.1) l.cons) (joined (map dat_bind_cons l.binds)))

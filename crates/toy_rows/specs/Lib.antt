@@ -1,4 +1,0 @@
-pub mod Scope
-pub mod Tokens
-pub mod Reading
-pub mod Inner
