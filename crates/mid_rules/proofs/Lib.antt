@@ -1,3 +1,4 @@
 pub mod Meanings
 pub mod RowsMean
+pub mod Quotients
 pub mod SmallUnits

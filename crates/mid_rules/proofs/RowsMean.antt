@@ -89,12 +89,12 @@ wrap_in (negsuc n) h = let l : n < 2 ^ 62 = omega (arith, ints, h.0) in wrap_neg
 abbrev arms : Exp → Exp → Rules
 arms t e = Rule (PCon true_part PNil) t (Rule (PCon false_part PNil) e Stop)
 
-choice_by : (go : Go) (env : Env) (c t e : Exp) (s : St) (b : Bool) (r : Res Val) → ev go env c s ≡ Done (truth b) s → (b ≡ true → ev go env t s ≡ r) → (b ≡ false → ev go env e s ≡ r) → ev go env (choice c t e) s ≡ r
+pub choice_by : (go : Go) (env : Env) (c t e : Exp) (s : St) (b : Bool) (r : Res Val) → ev go env c s ≡ Done (truth b) s → (b ≡ true → ev go env t s ≡ r) → (b ≡ false → ev go env e s ≡ r) → ev go env (choice c t e) s ≡ r
 choice_by go env c t e s true r h f g = ap (λ q. then_do q (λ v s1. ev_rules go env (arms t e) (fallen Stuck s1) v s1)) h ∙ f refl
 choice_by go env c t e s false r h f g = ap (λ q. then_do q (λ v s1. ev_rules go env (arms t e) (fallen Stuck s1) v s1)) h ∙ g refl
 
 -- the two arguments
-abbrev args : ℤ → ℤ → Env
+abbrev pub args : ℤ → ℤ → Env
 args a b = over (over (put left_name (an_int a) empty) (over (put right_name (an_int b) empty) empty)) empty
 
 abbrev sum : Exp

@@ -2,7 +2,7 @@
 use Rattle.std.proofs.Common.{◌≡◌, ℕ, suc, [], refl}
 use Rattle.std.specs.Prelude.{codes}
 use Rattle.beh.specs.Behaviour.{Ended, Raised}
-use Rattle.mid_rules.specs.Examples.{aliased, bound_together, by_dictionary, left_to_right, made_anew, no_binding, no_rule_takes, too_large, used_later}
+use Rattle.mid_rules.specs.Examples.{aliased, bound_together, by_dictionary, divides, left_to_right, made_anew, no_binding, no_rule_takes, references, too_large, used_later}
 use Rattle.mid_rules.specs.Mid.{Meaning}
 
 pub left_to_right_means : (n : ℕ) → Meaning left_to_right (suc (suc n)) ≡ record { output = codes "ab"; ending = Ended }
@@ -31,3 +31,9 @@ by_dictionary_means n = refl
 
 pub made_anew_means : (n : ℕ) → Meaning made_anew (suc (suc (suc (suc (suc (suc (suc n))))))) ≡ record { output = codes "outer"; ending = Ended }
 made_anew_means n = refl
+
+pub divides_means : (n : ℕ) → Meaning divides (suc (suc n)) ≡ record { output = codes "yy"; ending = Raised (codes "Div") }
+divides_means n = refl
+
+pub references_mean : (n : ℕ) → Meaning references (suc (suc n)) ≡ record { output = codes "yyn"; ending = Ended }
+references_mean n = refl

@@ -5,7 +5,7 @@ use Rattle.runs.specs.Forms.{call, choice, infix_of, unit_exp, values_of}
 use Rattle.runs.specs.Names.{Name, Part}
 use Rattle.runs.specs.Primitives.{St}
 use Rattle.runs.specs.Scope.{Scope}
-use Rattle.runs.specs.Tree.{Arith, Assign, Clo, Compare, Comparison, Deref, Equal, Exn, Exp, Greater, GreaterEqual, Identical, Int, Is, Less, LessEqual, Lit, Minus, Nam, NoVals, Not, PMore, PNil, PTup, PVar, Pat, Plus, Prim, PrintString, Raise, Rule, Stop, StringLength, Stuck, Val, Var}
+use Rattle.runs.specs.Tree.{Arith, Assign, Clo, Compare, Comparison, Deref, Divide, Equal, Exn, Exp, Greater, GreaterEqual, Identical, Int, Is, Less, LessEqual, Lit, Minus, Modulo, Nam, NoVals, Not, PMore, PNil, PTup, PVar, Pat, Plus, Prim, PrintString, Raise, Rule, Stop, StringLength, Stuck, Val, Var}
 use Rattle.mid_rules.specs.Names.{left_name, right_name}
 
 -- ---- exceptions
@@ -23,6 +23,9 @@ bind_exn = Exn 1 NoVals
 
 abbrev pub overflow_exn : Val
 overflow_exn = Exn 2 NoVals
+
+abbrev pub div_exn : Val
+div_exn = Exn 3 NoVals
 
 -- their names from a number on: before the homes are placed E, and after it Rt.E
 abbrev pub names_from : ℕ → List Part → List (Name × Val)
@@ -70,6 +73,9 @@ zero_exp = Lit (Int (pos 0))
 abbrev pub is_below : Exp → Exp → Exp
 is_below a b = infix_of (Compare Less) a b
 
+abbrev pub is_same : Exp → Exp → Exp
+is_same a b = infix_of (Compare Equal) a b
+
 abbrev pub raised : Val → Exp
 raised v = call (Is (Prim Raise NoVals)) (Is v)
 
@@ -87,11 +93,43 @@ subtracting =
     (choice (is_below (infix_of (Arith Plus) greatest right) left) (raised overflow_exn) (infix_of (Arith Minus) left right))
     (choice (is_below left (infix_of (Arith Plus) least right)) (raised overflow_exn) (infix_of (Arith Minus) left right))
 
+abbrev pub minus_one_exp : Exp
+minus_one_exp = Lit (Int (negsuc 0))
+
+-- - left, or Overflow: the least int has no negation
+abbrev pub negating : Exp
+negating = choice (is_same left least) (raised overflow_exn) (infix_of (Arith Minus) zero_exp left)
+
+abbrev pub without_sign : Exp
+without_sign = choice (is_below left zero_exp) negating left
+
+-- left / right, rounded towards 0, and what remains
+abbrev pub quotient : Exp
+quotient = infix_of (Arith Divide) left right
+
+abbrev pub remainder : Exp
+remainder = infix_of (Arith Modulo) left right
+
+-- a where the remainder has not the divisor's sign, and else b
+abbrev pub by_signs : Exp → Exp → Exp
+by_signs a b = choice (is_below right zero_exp) (choice (is_below zero_exp remainder) a b) (choice (is_below remainder zero_exp) a b)
+
+-- left div right, rounded down: Div where right is 0, and Overflow where it is ~1 and left the least int
+abbrev pub dividing : Exp
+dividing =
+    choice (is_same right zero_exp) (raised div_exn)
+    (choice (is_same right minus_one_exp) negating (by_signs (infix_of (Arith Minus) quotient (Lit (Int (pos 1)))) quotient))
+
+-- left mod right, which has the sign of right: Div where right is 0
+abbrev pub remaining : Exp
+remaining = choice (is_same right zero_exp) (raised div_exn) (by_signs (infix_of (Arith Plus) remainder right) remainder)
+
 -- The rows that are built, by their numbers: the rows of the table of the initial basis are numbered in its order, an
 -- overloaded name having one for each of its types, in the order int, word, char, string. A word is its number.
 abbrev pub rows : List (ℕ × Val)
 rows =
-    (2, of_pair adding) ∷ (4, of_pair subtracting) ∷ (14, comparing Less) ∷ (15, comparing Less) ∷ (16, comparing Less) ∷ (17, comparing Less) ∷
+    (2, of_pair adding) ∷ (4, of_pair subtracting) ∷ (8, of_pair dividing) ∷ (10, of_pair remaining) ∷ (12, of_one negating) ∷
+    (13, of_one without_sign) ∷ (14, comparing Less) ∷ (15, comparing Less) ∷ (16, comparing Less) ∷ (17, comparing Less) ∷
     (18, comparing LessEqual) ∷ (19, comparing LessEqual) ∷ (20, comparing LessEqual) ∷ (21, comparing LessEqual) ∷ (22, comparing Greater) ∷
     (23, comparing Greater) ∷ (24, comparing Greater) ∷ (25, comparing Greater) ∷ (26, comparing GreaterEqual) ∷ (27, comparing GreaterEqual) ∷
     (28, comparing GreaterEqual) ∷ (29, comparing GreaterEqual) ∷ (30, Prim Not NoVals) ∷ (31, of_one unit_exp) ∷ (32, of_pair left) ∷

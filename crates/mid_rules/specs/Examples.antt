@@ -1,7 +1,7 @@
 -- Small units, as plain trees.
-use Rattle.std.specs.Prelude.{ℕ, pos, List, [], ◌∷◌, Some, None, true, false, codes}
+use Rattle.std.specs.Prelude.{ℕ, pos, negsuc, List, [], ◌∷◌, Some, None, true, false, codes}
 use Rattle.tl_text.specs.declared.lit.Lit.TheVariants as lit
-use Rattle.mid_rules.specs.Core.{Maker, Makes, Raises, Dict, Base, Given, Parts, NoDicts, MoreDicts, Pat, Any, PLit, PVar, PCon, PConOf, PTuple, NoPats, MorePats, Exp, Const, Local, Home, Con, Prim, Tuple, Apply, Fun, Raise, Handle, Let, NoExps, MoreExps, Rules, NoRules, MoreRules, Vals, Funs, NewExn, NoDecs, MoreDecs, NoBinds, MoreBinds, Item, Core, Module, Items, NoItems, MoreItems, Body, AtPath}
+use Rattle.mid_rules.specs.Core.{Maker, Makes, Raises, Refers, Dict, Base, Given, Parts, NoDicts, MoreDicts, Pat, Any, PLit, PVar, PCon, PConOf, PTuple, NoPats, MorePats, Exp, Const, Local, Home, Con, Prim, Tuple, Apply, Fun, Raise, Handle, Let, NoExps, MoreExps, Rules, NoRules, MoreRules, Vals, Funs, NewExn, NoDecs, MoreDecs, NoBinds, MoreBinds, Item, Core, Module, Items, NoItems, MoreItems, Body, AtPath}
 
 abbrev pub row : List Item → Items
 row [] = NoItems
@@ -139,3 +139,33 @@ same_at a b =
 
 abbrev pub by_dictionary : List Items
 by_dictionary = row (same_item ∷ same_at (codes "a") (codes "a") ∷ same_at (codes "a") (codes "b") ∷ []) ∷ []
+
+-- val _ = yes_or_no (a = b) at the type of this number
+abbrev pub compared : ℕ → Exp → Exp → Item
+compared ty a b = val Any (Apply yes_or_no (Apply (Prim 0 (Some ty) NoDicts) (pair a b)))
+
+abbrev pub at_ints : ℕ → Exp → Exp → Exp
+at_ints row a b = Apply (Prim row (Some 0) NoDicts) (pair a b)
+
+abbrev pub minus : ℕ → Exp
+minus n = Const (lit.Int (negsuc n))
+
+-- val _ = yes_or_no (~7 div 2 = ~4)  val _ = yes_or_no (~7 mod 2 = 1)  val x = 1 div 0
+abbrev pub divides : List Items
+divides =
+    row
+    (compared 0 (at_ints 8 (minus 6) (number 2)) (minus 3) ∷ compared 0 (at_ints 10 (minus 6) (number 2)) (number 1)
+    ∷ val (variable 1 (codes "x")) (at_ints 8 (number 1) (number 0)) ∷ []) ∷ []
+
+-- val r = ref 1  val s = r  val t = ref 5  val _ = r := 5
+-- val _ = yes_or_no (!s = 5)  val _ = yes_or_no (r = s)  val _ = yes_or_no (r = t)
+abbrev pub cell : ℕ → Exp
+cell n = Apply (Con Refers true) (number n)
+
+abbrev pub references : List Items
+references =
+    row
+    (val (variable 1 (codes "r")) (cell 1) ∷ val (variable 2 (codes "s")) (home (codes "r")) ∷ val (variable 3 (codes "t")) (cell 5)
+    ∷ val Any (Apply (Prim 34 None NoDicts) (pair (home (codes "r")) (number 5)))
+    ∷ compared 0 (Apply (Prim 33 None NoDicts) (home (codes "s"))) (number 5) ∷ compared 7 (home (codes "r")) (home (codes "s"))
+    ∷ compared 7 (home (codes "r")) (home (codes "t")) ∷ []) ∷ []

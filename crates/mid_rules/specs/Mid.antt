@@ -1,5 +1,5 @@
 -- The meaning of units.
-use Rattle.std.specs.Prelude.{◌≡◌, ◌⊎◌, ℕ, suc, ℤ, pos, negsuc, ◌≤ℤ◌, List, [], ◌∷◌, Option}
+use Rattle.std.specs.Prelude.{◌≡◌, ◌⊎◌, ℕ, suc, ℤ, pos, negsuc, ◌+ℤ◌, ◌*ℤ◌, ◌≤ℤ◌, ◌<ℤ◌, List, [], ◌∷◌, Option}
 use Rattle.beh.specs.Behaviour.{Behaviour}
 use Rattle.mid_ast.specs.declared.item.MidUnit.{MidUnit}
 use Rattle.runs.specs.Env.{Env, empty}
@@ -68,3 +68,7 @@ a_string t = run.Datum (run.Str t)
 -- the integers of the profile
 abbrev pub IsInt : ℤ → Type 0
 IsInt z = (negsuc 4611686018427387903 ≤ℤ z) × (z ≤ℤ pos 4611686018427387903)
+
+-- a is q times b and m, where m has the sign of b and is smaller: so q is a divided by b, rounded down
+abbrev pub RoundedDown : ℤ → ℤ → ℤ → ℤ → Type 0
+RoundedDown a b q m = (q *ℤ b +ℤ m ≡ a) × (((pos 0 ≤ℤ m) × (m <ℤ b)) ⊎ ((b <ℤ m) × (m ≤ℤ pos 0)))

@@ -1,6 +1,6 @@
 ghost use Rattle.std.specs.Prelude.{◌≡◌, ℕ, suc, [], codes};
 ghost use Rattle.beh.specs.Behaviour.{Ended, Raised};
-ghost use Rattle.mid_rules.specs.Examples.{aliased, bound_together, by_dictionary, left_to_right, made_anew, no_binding, no_rule_takes, too_large, used_later};
+ghost use Rattle.mid_rules.specs.Examples.{aliased, bound_together, by_dictionary, divides, left_to_right, made_anew, no_binding, no_rule_takes, references, too_large, used_later};
 ghost use Rattle.mid_rules.specs.Mid.{Meaning};
 
 /// Arguments are evaluated from left to right, and a later unit uses the function of an earlier one.
@@ -31,4 +31,14 @@ pub fn exceptions_mean()
 /// A function with an equality variable tests by the dictionary that it is given.
 pub fn dictionaries_test()
     ensures { (n : ℕ) → Meaning by_dictionary (suc (suc (suc (suc (suc n))))) ≡ record { output = codes "yn"; ending = Ended } }
+{}
+
+/// Division rounds down, and by zero it raises Div.
+pub fn division_means()
+    ensures { (n : ℕ) → Meaning divides (suc (suc n)) ≡ record { output = codes "yy"; ending = Raised (codes "Div") } }
+{}
+
+/// Names of one cell see what is put into it, and a cell is equal to itself alone.
+pub fn references_mean()
+    ensures { (n : ℕ) → Meaning references (suc (suc n)) ≡ record { output = codes "yyn"; ending = Ended } }
 {}

@@ -11,7 +11,8 @@ mod laws;
 mod rows;
 
 pub use examples::{
-    bindings_are_together, dictionaries_test, exceptions_mean, failures_raise, functions_mean,
+    bindings_are_together, dictionaries_test, division_means, exceptions_mean, failures_raise,
+    functions_mean, references_mean,
 };
 pub use laws::{agrees_through, goes_on, one_after_another, still_by_form};
-pub use rows::{checked_sums, comparisons, simple_rows};
+pub use rows::{checked_negations, checked_quotients, checked_sums, comparisons, simple_rows};

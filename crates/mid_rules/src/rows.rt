@@ -1,6 +1,6 @@
-ghost use Rattle.std.specs.Prelude.{◌≡◌, ◌<◌, ◌^◌, ℕ, ℤ, pos, ◌+ℤ◌, ◌-ℤ◌, int_lt, Bool, not, nat_lt, List, length, Some, None, slice_get};
-ghost use Rattle.mid_rules.specs.Basis.{overflow_exn};
-ghost use Rattle.mid_rules.specs.Mid.{IsInt, a_char, a_string, an_int, called, pair};
+ghost use Rattle.std.specs.Prelude.{◌≡◌, ◌<◌, ◌^◌, ℕ, ℤ, pos, negsuc, ◌+ℤ◌, ◌-ℤ◌, int_lt, Bool, not, nat_lt, List, length, Some, None, slice_get, unsigned_abs};
+ghost use Rattle.mid_rules.specs.Basis.{div_exn, overflow_exn};
+ghost use Rattle.mid_rules.specs.Mid.{IsInt, RoundedDown, a_char, a_string, an_int, called, pair};
 ghost use Rattle.runs.specs.Meaning.{Done, Raised};
 ghost use Rattle.runs.specs.Patterns.{same_int};
 ghost use Rattle.runs.specs.Primitives.{St, less_text, truth, unit, with_value, written};
@@ -31,4 +31,20 @@ pub fn checked_sums()
     ensures adds_too_much { (a b : ℤ) (s : St) (n : ℕ) → IsInt a → IsInt b → (IsInt (a +ℤ b) → ⊥) → called 2 None (pair (an_int a) (an_int b)) s n ≡ Raised overflow_exn s }
     ensures subtracts { (a b : ℤ) (s : St) (n : ℕ) → IsInt a → IsInt b → IsInt (a -ℤ b) → called 4 None (pair (an_int a) (an_int b)) s n ≡ Done (an_int (a -ℤ b)) s }
     ensures subtracts_too_much { (a b : ℤ) (s : St) (n : ℕ) → IsInt a → IsInt b → (IsInt (a -ℤ b) → ⊥) → called 4 None (pair (an_int a) (an_int b)) s n ≡ Raised overflow_exn s }
+{}
+
+/// div and mod at int, rounded down: Div where the divisor is 0, and Overflow where the quotient is no int.
+pub fn checked_quotients()
+    ensures divides { (a b : ℤ) (s : St) (n : ℕ) → IsInt a → IsInt b → (b ≡ pos 0 → ⊥) → (a ≡ negsuc 4611686018427387903 → b ≡ negsuc 0 → ⊥) → (q : ℤ) × (m : ℤ) × RoundedDown a b q m × (called 8 None (pair (an_int a) (an_int b)) s n ≡ Done (an_int q) s) }
+    ensures divides_too_much { (s : St) (n : ℕ) → called 8 None (pair (an_int (negsuc 4611686018427387903)) (an_int (negsuc 0))) s n ≡ Raised overflow_exn s }
+    ensures remains { (a b : ℤ) (s : St) (n : ℕ) → IsInt b → (b ≡ pos 0 → ⊥) → (q : ℤ) × (m : ℤ) × RoundedDown a b q m × (called 10 None (pair (an_int a) (an_int b)) s n ≡ Done (an_int m) s) }
+    ensures by_zero { (a : ℤ) (s : St) (n : ℕ) → (called 8 None (pair (an_int a) (an_int (pos 0))) s n ≡ Raised div_exn s) × (called 10 None (pair (an_int a) (an_int (pos 0))) s n ≡ Raised div_exn s) }
+{}
+
+/// ~ and abs at int: the negation or the magnitude where it is an int, and else Overflow.
+pub fn checked_negations()
+    ensures negates { (a : ℤ) (s : St) (n : ℕ) → IsInt (pos 0 -ℤ a) → called 12 None (an_int a) s n ≡ Done (an_int (pos 0 -ℤ a)) s }
+    ensures negates_too_much { (a : ℤ) (s : St) (n : ℕ) → IsInt a → (IsInt (pos 0 -ℤ a) → ⊥) → called 12 None (an_int a) s n ≡ Raised overflow_exn s }
+    ensures magnitude { (a : ℤ) (s : St) (n : ℕ) → IsInt (pos (unsigned_abs a)) → called 13 None (an_int a) s n ≡ Done (an_int (pos (unsigned_abs a))) s }
+    ensures magnitude_too_much { (a : ℤ) (s : St) (n : ℕ) → IsInt a → (IsInt (pos (unsigned_abs a)) → ⊥) → called 13 None (an_int a) s n ≡ Raised overflow_exn s }
 {}
