@@ -1,15 +1,16 @@
-ghost use Rattle.std.specs.Prelude.{◌≡◌, OnOk, map, codes};
+ghost use Rattle.std.specs.Prelude.{◌≡◌, ◌+◌, OnOk, map, codes};
 ghost use Rattle.tl_text.specs.Pairs.{map_second};
-ghost use Rattle.oc_ast.specs.View.{plain_atom, plain_full, plain_item, plain_mexp, plain_rbind, plain_simple, row_of_atoms, row_of_arms, row_of_items, row_of_binds};
+ghost use Rattle.oc_ast.specs.View.{plain_apat, plain_arg, plain_atom, plain_full, plain_item, plain_mexp, plain_pat, plain_rbind, plain_simple, row_of_atoms, row_of_arms, row_of_items, row_of_binds};
 ghost use Rattle.oc_layout.specs.Layout as layout;
+ghost use Rattle.oc_layout.specs.Layout.{◌▸◌};
 
 use crate::names::{operator, path, tyvars, value};
 use crate::patterns::{apat, brackets, pat};
 use crate::pen::{Pen, deeper};
 use crate::signatures::{named, signature};
 use crate::types::{constructor, definitions, type_of};
-use oc_ast::{Atom, Full, Item, MExp, Pat, RBind, Simple};
-use tl_text::NoMemory;
+use oc_ast::{APat, ATy, Atom, Full, Item, MExp, Pat, RBind, Simple};
+use tl_text::{Name, NoMemory};
 
 /// An expression that may stand as an argument.
 #[cycle(expressions)]
@@ -95,35 +96,24 @@ fn full(pen: &mut Pen, exp: &Full) -> Result<(), NoMemory>
     'chain: loop {
         match at {
             Full::LetIn(pattern, right, rest) => {
-                pen.name(b"let")?;
-                pat(pen, pattern.get())?;
-                pen.mark(b"=")?;
-                simple(pen, right.get())?;
-                pen.name(b"in")?;
-                pen.body()?;
+                let_value(pen, pattern.get(), right.get())?;
+                pen.behind_in()?;
                 at = rest.get();
             }
             Full::LetRecIn(bindings, rest) => {
                 rec_bindings(pen, bindings.items())?;
-                pen.name(b"in")?;
-                pen.body()?;
+                pen.behind_in()?;
                 at = rest.get();
             }
             Full::LetMod(name, inner, rest) => {
-                pen.name(b"let")?;
-                named(pen, b"module", name)?;
-                pen.mark(b"=")?;
-                structure(pen, inner.items())?;
-                pen.name(b"in")?;
-                pen.body()?;
+                let_module(pen, name, inner.items())?;
+                pen.behind_in()?;
                 at = rest.get();
             }
             Full::LetExn(name, arg, rest) => {
                 pen.name(b"let")?;
-                pen.name(b"exception")?;
-                constructor(pen, name, arg)?;
-                pen.name(b"in")?;
-                pen.body()?;
+                exception(pen, name, arg)?;
+                pen.behind_in()?;
                 at = rest.get();
             }
             Full::Then(first, rest) => {
@@ -134,44 +124,98 @@ fn full(pen: &mut Pen, exp: &Full) -> Result<(), NoMemory>
             }
             Full::Is(inner) => match inner {
                 Simple::Fun(pattern, rest) => {
-                    pen.name(b"fun")?;
-                    apat(pen, pattern.get())?;
-                    pen.mark(b"->")?;
+                    parameter(pen, pattern.get())?;
                     at = rest.get();
                 }
                 other => return simple(pen, other),
             },
-            Full::If(test, first, other) => {
-                pen.name(b"if")?;
-                atom(pen, test.get())?;
-                pen.name(b"then")?;
-                atom(pen, first.get())?;
-                pen.name(b"else")?;
-                return atom(pen, other.get());
-            }
-            Full::Match(of, rows) => {
-                let indentation = deeper(pen.line())?;
-                pen.name(b"match")?;
-                atom(pen, of.get())?;
-                pen.name(b"with")?;
-                return arms(pen, indentation, rows.items());
-            }
-            Full::Try(of, rows) => {
-                let indentation = deeper(pen.line())?;
-                pen.name(b"try")?;
-                atom(pen, of.get())?;
-                pen.name(b"with")?;
-                return arms(pen, indentation, rows.items());
-            }
-            Full::While(test, inner) => {
-                pen.name(b"while")?;
-                atom(pen, test.get())?;
-                pen.name(b"do")?;
-                full(pen, inner.get())?;
-                return pen.name(b"done");
-            }
+            Full::If(test, first, other) => return choice(
+                pen,
+                test.get(),
+                first.get(),
+                other.get(),
+            ),
+            Full::Match(of, rows) => return matching(pen, b"match", of.get(), rows.items()),
+            Full::Try(of, rows) => return matching(pen, b"try", of.get(), rows.items()),
+            Full::While(test, inner) => return repetition(pen, test.get(), inner.get()),
         }
     }
+}
+
+/// `let`, a pattern, `=` and its right side.
+#[cycle(expressions)]
+fn let_value(pen: &mut Pen, pattern: &Pat, right: &Simple) -> Result<(), NoMemory>
+    ensures { OnOk result (pen.new ≡ (layout.name (codes "let") ▸ layout.pat (plain_pat pattern.now) ▸ layout.mark (codes "=") ▸ layout.simple (plain_simple right.now)) pen.old) }
+{
+    pen.name(b"let")?;
+    pat(pen, pattern)?;
+    pen.mark(b"=")?;
+    simple(pen, right)
+}
+
+/// `let module`, a name, `=` and its structure.
+#[cycle(expressions)]
+fn let_module(pen: &mut Pen, name: &Name, inner: &[Item]) -> Result<(), NoMemory>
+    ensures { OnOk result (pen.new ≡ (layout.name (codes "let") ▸ layout.name (codes "module") ▸ layout.name name.now ▸ layout.mark (codes "=") ▸ layout.bracketed (codes "struct") (λ n. layout.items n (row_of_items (map plain_item inner.now)))) pen.old) }
+{
+    pen.name(b"let")?;
+    named(pen, b"module", name)?;
+    pen.mark(b"=")?;
+    structure(pen, inner)
+}
+
+/// `if a then b else c`
+#[cycle(expressions)]
+fn choice(pen: &mut Pen, test: &Atom, first: &Atom, other: &Atom) -> Result<(), NoMemory>
+    ensures { OnOk result (pen.new ≡ (layout.name (codes "if") ▸ layout.atom (plain_atom test.now) ▸ layout.name (codes "then") ▸ layout.atom (plain_atom first.now) ▸ layout.name (codes "else") ▸ layout.atom (plain_atom other.now)) pen.old) }
+{
+    pen.name(b"if")?;
+    atom(pen, test)?;
+    pen.name(b"then")?;
+    atom(pen, first)?;
+    pen.name(b"else")?;
+    atom(pen, other)
+}
+
+/// `match` or `try`, what it looks at, `with`, and the arms.
+#[cycle(expressions)]
+fn matching(pen: &mut Pen, word: &[u8], of: &Atom, rows: &[(Pat, Atom)]) -> Result<(), NoMemory>
+    ensures { OnOk result (pen.new ≡ (layout.here (λ l i. layout.name word.now ▸ layout.atom (plain_atom of.now) ▸ layout.name (codes "with") ▸ layout.arms (l + 2) (row_of_arms (map_second plain_atom rows.now)))) pen.old) }
+{
+    let indentation = deeper(pen.line())?;
+    pen.name(word)?;
+    atom(pen, of)?;
+    pen.name(b"with")?;
+    arms(pen, indentation, rows)
+}
+
+/// `while a do e done`
+#[cycle(expressions)]
+fn repetition(pen: &mut Pen, test: &Atom, inner: &Full) -> Result<(), NoMemory>
+    ensures { OnOk result (pen.new ≡ (layout.name (codes "while") ▸ layout.atom (plain_atom test.now) ▸ layout.name (codes "do") ▸ layout.full (plain_full inner.now) ▸ layout.name (codes "done")) pen.old) }
+{
+    pen.name(b"while")?;
+    atom(pen, test)?;
+    pen.name(b"do")?;
+    full(pen, inner)?;
+    pen.name(b"done")
+}
+
+/// `fun`, a pattern and the arrow.
+fn parameter(pen: &mut Pen, pattern: &APat) -> Result<(), NoMemory>
+    ensures { OnOk result (pen.new ≡ (layout.name (codes "fun") ▸ layout.apat (plain_apat pattern.now) ▸ layout.mark (codes "->")) pen.old) }
+{
+    pen.name(b"fun")?;
+    apat(pen, pattern)?;
+    pen.mark(b"->")
+}
+
+/// `exception`, a name and its argument.
+fn exception(pen: &mut Pen, name: &Name, arg: &Option<ATy>) -> Result<(), NoMemory>
+    ensures { OnOk result (pen.new ≡ (layout.name (codes "exception") ▸ layout.cons name.now (plain_arg arg.now)) pen.old) }
+{
+    pen.name(b"exception")?;
+    constructor(pen, name, arg)
 }
 
 /// An item.
@@ -180,18 +224,10 @@ pub fn item(pen: &mut Pen, it: &Item) -> Result<(), NoMemory>
     ensures { OnOk result (pen.new ≡ layout.item (plain_item it.now) pen.old) }
 {
     match it {
-        Item::Let(pattern, right) => {
-            pen.name(b"let")?;
-            pat(pen, pattern)?;
-            pen.mark(b"=")?;
-            simple(pen, right)
-        }
+        Item::Let(pattern, right) => let_value(pen, pattern, right),
         Item::LetRec(bindings) => rec_bindings(pen, bindings.items()),
         Item::Types(defs) => definitions(pen, defs.items()),
-        Item::Exn(name, arg) => {
-            pen.name(b"exception")?;
-            constructor(pen, name, arg)
-        }
+        Item::Exn(name, arg) => exception(pen, name, arg),
         Item::ExnAs(name, other) => {
             named(pen, b"exception", name)?;
             pen.mark(b"=")?;
@@ -329,9 +365,7 @@ fn simple(pen: &mut Pen, exp: &Simple) -> Result<(), NoMemory>
             atom(pen, right.get())
         }
         Simple::Fun(pattern, inner) => {
-            pen.name(b"fun")?;
-            apat(pen, pattern.get())?;
-            pen.mark(b"->")?;
+            parameter(pen, pattern.get())?;
             full(pen, inner.get())
         }
     }

@@ -1,7 +1,8 @@
-ghost use Rattle.std.specs.Prelude.{◌≡◌, ◌+◌, OnOk, IfOk, true};
+ghost use Rattle.std.specs.Prelude.{◌≡◌, ◌+◌, OnOk, IfOk, true, codes};
 ghost use Rattle.oc_rules.specs.Token.{Name, Tyvar, Sign, Lit};
 ghost use Rattle.oc_layout.specs.Sheet.{blank, added, noted, started, one_byte, opens_byte, leans_byte};
-ghost use Rattle.oc_layout.specs.Layout.{body, line};
+ghost use Rattle.oc_layout.specs.Layout as layout;
+ghost use Rattle.oc_layout.specs.Layout.{body, line, ◌▸◌};
 
 use crate::literal::literal_bytes;
 use oc_ast::OcLit;
@@ -91,6 +92,14 @@ impl Pen {
     {
         let line = deeper(self.item)?;
         self.start(line, self.item)
+    }
+
+    /// Writes `in`, and begins a line two deeper than the item.
+    pub fn behind_in(&mut self) -> Result<(), NoMemory>
+        ensures { OnOk result (self.new ≡ (layout.name (codes "in") ▸ body) self.old) }
+    {
+        self.name(b"in")?;
+        self.body()
     }
 
     /// Begins a line with this indentation, for the same item.

@@ -1,4 +1,4 @@
-use Rattle.std.proofs.Common.{◌≡◌, ◌+◌, ◌*◌, ◌≤◌, drop, map, codes}
+use Rattle.std.proofs.Common.{◌≡◌, ◌+◌, ◌*◌, ◌≤◌, drop, map, max, codes}
 use Rattle.oc_ast.specs.declared.expression.Atom.TheViews.{size-Atom, size-Full, size-Item, size-MExp, size-RBind, size-Simple, weight-Atom-Tuple-1, weight-Full-Match-1, weight-Full-LetMod-1, weight-Full-LetRecIn-0}
 use Rattle.tl_text.specs.Pairs.{map_second}
 use Rattle.oc_ast.specs.View.{plain_atom, plain_full, plain_item, plain_rbind, row_of_atoms, row_of_arms, row_of_items, row_of_binds}
@@ -56,3 +56,18 @@ decreases-rec_binding l = 4 * size-RBind l.binding.now
 
 abbrev pub decreases-simple : goal.decreases-simple
 decreases-simple l = 4 * size-Simple l.exp.now
+
+abbrev pub decreases-let_value : goal.decreases-let_value
+decreases-let_value l = 4 * size-Simple l.right.now + 1
+
+abbrev pub decreases-let_module : goal.decreases-let_module
+decreases-let_module l = 4 * weight-Full-LetMod-1 l.inner.now + 2
+
+abbrev pub decreases-choice : goal.decreases-choice
+decreases-choice l = 4 * max (size-Atom l.test.now) (max (size-Atom l.first.now) (size-Atom l.other.now)) + 1
+
+abbrev pub decreases-matching : goal.decreases-matching
+decreases-matching l = 4 * max (size-Atom l.of.now) (weight-Full-Match-1 l.rows.now) + 2
+
+abbrev pub decreases-repetition : goal.decreases-repetition
+decreases-repetition l = 4 * max (size-Atom l.test.now) (size-Full l.inner.now) + 1
