@@ -1,12 +1,12 @@
 -- From the walk over the matrix of all patterns to the answer.
-use Rattle.std.proofs.Common.{◌≡◌, ℕ, zero, suc, ◌+◌, ◌<◌, ◌≤◌, List, [], ◌∷◌, map, length, replicate, take, Bool, true, false, ◌&&◌, ◌||◌, Option, Some, None, refl, sym, ap, ◌∙◌, subst, arith, inl, inr, ◌⊎◌, ◌↔◌, ltb, lt-ltb, get_or}
+use Rattle.std.proofs.Common.{◌≡◌, ℕ, zero, suc, ◌+◌, ◌<◌, ◌≤◌, List, [], ◌∷◌, length, replicate, take, Bool, true, false, ◌&&◌, ◌||◌, Option, Some, None, refl, sym, ap, ◌∙◌, subst, arith, inl, inr, ◌⊎◌, ltb, lt-ltb}
 use Rattle.std.specs.Prelude.{IsTrue}
 use Rattle.std.specs.List.{list_all, slice_index_or}
-use Rattle.std.proofs.lemmas.Bool.{and_parts, and_from, or_left, or_cases, cases_Bool}
+use Rattle.std.proofs.lemmas.Bool.{and_parts, and_from, or_left, cases_Bool}
 use Rattle.sml_static.specs.Shapes.{Pattern, Wild, Shape, hits, misses}
-use Rattle.sml_static.specs.Exhaustive.{Splits, IsExhaustive, IsReached, IsShapeFor, are_named, is_shape}
+use Rattle.sml_static.specs.Exhaustive.{Splits, IsExhaustive, IsReached, are_named, is_shape}
 use Rattle.match_use.specs.Alike.{agree, AreOfOneType}
-use Rattle.match_use.specs.Lines.{Line, plain, rows_agree, all_agree, first_shape, row_hits, row_misses, TakenBy, AreNamed, IsTaken}
+use Rattle.match_use.specs.Lines.{Line, plain, rows_agree, all_agree, first_shape, TakenBy, AreNamed}
 use Rattle.match_use.specs.Reduced.{are_below}
 use Rattle.match_use.specs.Progress.{IsMarked, Progress, TakenIn}
 use Rattle.match_use.specs.Answer.{patterns_of, matrix_of, lines_from, SplitsWithin, IsWhole, IsGivenUp}
@@ -14,7 +14,7 @@ use Rattle.mid_ast.specs.declared.exp.MidRule.{MidRule}
 use Rattle.std.specs.Prelude.{MatchOption}
 use Rattle.match_use.specs.declared.walk.Tally.{Tally}
 use Rattle.match_use.specs.declared.walk.TheConstants.{SPLITS}
-use Rattle.match_use.proofs.Tests.{all-imp, pairs-map}
+use Rattle.match_use.proofs.Tests.{pairs-map}
 use Rattle.match_use.proofs.Reducing.{first_fit}
 
 pub plain-lines_from : (k : ℕ) (ps : List Pattern) → plain (lines_from k ps) ≡ matrix_of ps

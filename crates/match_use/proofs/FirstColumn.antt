@@ -1,17 +1,16 @@
 -- The heads of a column of one type.
-use Rattle.std.proofs.Common.{◌≡◌, ℕ, suc, ◌<◌, ◌≤◌, List, [], ◌∷◌, ◌++◌, length, Bool, true, false, ◌&&◌, ◌||◌, not, cond, eqb, Option, Some, None, refl, sym, ap, ◌∙◌, subst, arith, inl, inr, ◌⊎◌}
+use Rattle.std.proofs.Common.{◌≡◌, ℕ, List, [], ◌∷◌, ◌++◌, length, Bool, true, false, ◌&&◌, ◌||◌, not, cond, Option, Some, None, refl, sym, ap, subst, inl, inr, ◌⊎◌}
 use Rattle.std.specs.List.{list_all, list_any, filter_map, cons_option}
-use Rattle.std.proofs.lemmas.Bool.{and_parts, and_from, or_parts, or_from, or_left, or_right, or_cases, cases_Bool, false_from_ne_true}
-use Rattle.tl_text.specs.declared.lit.Lit.{Lit}
-use Rattle.sml_static.specs.Shapes.{Key, Pattern, Wild, Parts, Cell, Literal, Made, is_same_key, is_other_key, is_same_literal, is_other_literal}
-use Rattle.sml_static.specs.Exhaustive.{Head, HeadLiteral, HeadKey, Another, is_same_head, head_of, heads, once, split_by, has_others, is_named, are_named, begins_wild}
+use Rattle.std.proofs.lemmas.Bool.{and_parts, and_from, or_left, or_right, or_cases, cases_Bool}
+use Rattle.sml_static.specs.Shapes.{Pattern, Wild, Parts, Cell, Literal, Made, is_same_key, is_other_key, is_same_literal, is_other_literal}
+use Rattle.sml_static.specs.Exhaustive.{Head, HeadLiteral, HeadKey, Another, is_same_head, head_of, heads, once, split_by, has_others, is_named, are_named}
 use Rattle.match_use.specs.Alike.{agree}
 use Rattle.match_use.specs.Lines.{rows_agree, all_agree}
 use Rattle.match_use.specs.Steps.{first_step}
 use Rattle.match_use.specs.declared.reduce.Step.TheVariants as step
 use Rattle.match_use.proofs.Tests.{all-imp, all-filter}
 use Rattle.match_use.proofs.Weights.{IsAmong, among_here, among_later}
-use Rattle.match_use.proofs.Pigeons.{are_unlike, same_head-trans, same_head-sym}
+use Rattle.match_use.proofs.Pigeons.{are_unlike, same_head-sym}
 use Rattle.match_use.proofs.Equal.{same_key-refl, same_literal-refl}
 
 -- whether two heads are of one type

@@ -1,5 +1,5 @@
 -- The last part of a path by its place.
-use Rattle.std.proofs.Common.{◌≡◌, ℕ, zero, suc, ◌+◌, List, [], ◌∷◌, length, Option, Some, None, refl, arith}
+use Rattle.std.proofs.Common.{◌≡◌, ℕ, zero, suc, ◌+◌, List, [], ◌∷◌, length, Some, arith}
 use Rattle.std.specs.List.{slice_get}
 use Rattle.sml_static.specs.Shapes.{last_part}
 

@@ -10,6 +10,7 @@ pub mod Opening
 pub mod Pigeons
 pub mod FirstColumn
 pub mod Others
+pub mod Naming
 pub mod Splitting
 pub mod Progressing
 pub mod Answering

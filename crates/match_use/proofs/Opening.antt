@@ -1,5 +1,5 @@
 -- A first column that is dropped or opened as its first row with something tells.
-use Rattle.std.proofs.Common.{◌≡◌, ℕ, ◌<◌, List, map, length, Bool, true, false, [], ◌∷◌, eqb, sym, subst, arith}
+use Rattle.std.proofs.Common.{◌≡◌, ◌<◌, List, map, length, Bool, true, false, [], ◌∷◌, eqb, sym, subst, arith}
 use Rattle.match_use.specs.declared.row.Row.{Row}
 use Rattle.match_use.specs.Lines.{Line, lines_of, plain, all_agree}
 use Rattle.match_use.specs.Steps.{first_step, dropped_line, parts_line, cell_line}

@@ -1,9 +1,8 @@
 -- A type has others than the heads of a column exactly where `has_others` says so.
-use Rattle.std.proofs.Common.{◌≡◌, ℕ, zero, suc, ◌+◌, ◌<◌, ◌≤◌, ℤ, pos, List, [], ◌∷◌, map, length, Bool, true, false, ◌&&◌, ◌||◌, not, eqb, ltb, refl, sym, ap, ◌∙◌, subst, arith, inl, inr, ◌⊎◌, ltb-true, lt-ltb, eq-eqb}
+use Rattle.std.proofs.Common.{◌≡◌, ℕ, zero, suc, ◌+◌, ◌<◌, ◌≤◌, pos, List, [], ◌∷◌, map, length, Bool, true, false, ◌&&◌, ◌||◌, not, eqb, ltb, refl, sym, ap, ◌∙◌, subst, arith, inl, inr, ltb-true, lt-ltb, eq-eqb}
 use Rattle.std.specs.List.{list_all, list_any, range_with_len}
-use Rattle.std.specs.Ordering.{int_eq}
 use Rattle.std.specs.Str.{bytes_eq}
-use Rattle.std.proofs.lemmas.Bool.{and_parts, and_from, and_right, or_parts, or_from, or_left, or_right, or_cases, cases_Bool, false_from_ne_true, cases_eq, eqb-true}
+use Rattle.std.proofs.lemmas.Bool.{and_parts, and_from, and_right, or_parts, or_left, or_right, or_cases, false_from_ne_true, cases_eq, eqb-true}
 use Rattle.tl_text.specs.declared.lit.Lit.{Lit}
 use Rattle.tl_text.specs.declared.lit.Lit.TheVariants as lit
 use Rattle.sml_static.specs.Shapes.{Key, Of, Exn, is_same_key, is_other_key, is_same_literal, is_other_literal}
@@ -13,7 +12,7 @@ use Rattle.match_use.specs.Heads.{stands}
 use Rattle.match_use.proofs.Equal.{same_key-true, literal_type, literal_types, key_types}
 use Rattle.std.proofs.lemmas.Bool.Decides.{Decides-int_eq}
 use Rattle.std.proofs.lemmas.Slice.Eq.{bytes_eq-Decides}
-use Rattle.match_use.proofs.Pigeons.{are_unlike, IsOneOf, Free, free, room}
+use Rattle.match_use.proofs.Pigeons.{are_unlike, Free, free, room}
 use Rattle.match_use.proofs.FirstColumn.{is_typed, keyed}
 
 -- candidates with numbers
@@ -63,7 +62,7 @@ unfolding chars
 chars_all t n h = range_all (λ i. HeadLiteral (lit.Char i)) t 0 n (λ i l. h i (omega arith))
 
 -- the heads with these names of a datatype
-named_heads : ℕ → ℕ → List (List ℕ) → List Head
+pub named_heads : ℕ → ℕ → List (List ℕ) → List Head
 named_heads d n names = map (λ x. HeadKey (Of d x) n) names
 
 no_name : (d n : ℕ) (x : List ℕ) (ns : List (List ℕ)) → list_any (bytes_eq x) ns ≡ false → list_all (λ z. not (is_same_head (HeadKey (Of d x) n) z)) (named_heads d n ns) ≡ true
@@ -73,7 +72,7 @@ no_name d n x (y ∷ ys) e =
     let a = or_parts (bytes_eq x y) (list_any (bytes_eq x) ys) e in
     and_from (not (eqb d d && bytes_eq x y)) _ (ap not (and_right (eqb d d) (bytes_eq x y) a.0)) (no_name d n x ys a.1)
 
-names_unlike : (d n : ℕ) (ns : List (List ℕ)) → are_distinct ns ≡ true → are_unlike (named_heads d n ns) ≡ true
+pub names_unlike : (d n : ℕ) (ns : List (List ℕ)) → are_distinct ns ≡ true → are_unlike (named_heads d n ns) ≡ true
 unfolding named_heads
 names_unlike d n [] e = refl
 names_unlike d n (x ∷ xs) e =
@@ -84,7 +83,7 @@ names_unlike d n (x ∷ xs) e =
     un_not true e = cc
     un_not false e = refl
 
-names_have : (d n m : ℕ) (x : List ℕ) (ns : List (List ℕ)) → list_any (bytes_eq x) ns ≡ true → list_any (is_same_head (HeadKey (Of d x) m)) (named_heads d n ns) ≡ true
+pub names_have : (d n m : ℕ) (x : List ℕ) (ns : List (List ℕ)) → list_any (bytes_eq x) ns ≡ true → list_any (is_same_head (HeadKey (Of d x) m)) (named_heads d n ns) ≡ true
 unfolding named_heads
 names_have d n m x [] e = cc
 names_have d n m x (y ∷ ys) e = elim (or_cases (bytes_eq x y) (list_any (bytes_eq x) ys) e) [
@@ -92,12 +91,12 @@ names_have d n m x (y ∷ ys) e = elim (or_cases (bytes_eq x y) (list_any (bytes
   | inr a ↦ or_right (eqb d d && bytes_eq x y) _ (names_have d n m x ys a)
 ]
 
-length-names : (d n : ℕ) (ns : List (List ℕ)) → length (named_heads d n ns) ≡ length ns
+pub length-names : (d n : ℕ) (ns : List (List ℕ)) → length (named_heads d n ns) ≡ length ns
 unfolding named_heads
 length-names d n [] = refl
 length-names d n (x ∷ xs) = ap suc (length-names d n xs)
 
-names_all : (t : Head → Bool) (d n : ℕ) (ms ns : List (List ℕ)) → ((x : List ℕ) → list_any (bytes_eq x) ms ≡ true → t (HeadKey (Of d x) n) ≡ true) → list_all (λ x. list_any (bytes_eq x) ms) ns ≡ true
+pub names_all : (t : Head → Bool) (d n : ℕ) (ms ns : List (List ℕ)) → ((x : List ℕ) → list_any (bytes_eq x) ms ≡ true → t (HeadKey (Of d x) n) ≡ true) → list_all (λ x. list_any (bytes_eq x) ms) ns ≡ true
     → list_all t (named_heads d n ns) ≡ true
 unfolding named_heads
 names_all t d n ms [] h e = refl
@@ -208,16 +207,16 @@ from_range names h hs f inj fit =
     other_from names h (map f (range_with_len 0 (suc (length hs)))) hs (range_all f (fits names h) 0 (suc (length hs)) (λ i l. fit i))
     (free (map f (range_with_len 0 (suc (length hs)))) hs (range_unlike f inj 0 (suc (length hs))) (subst (λ n. length hs < n) (sym (range_length f 0 (suc (length hs)))) (omega arith)))
 
-zeros : ℕ → List ℕ
+pub zeros : ℕ → List ℕ
 zeros zero = []
 zeros (suc n) = 0 ∷ zeros n
 
-length-zeros : (n : ℕ) → length (zeros n) ≡ n
+pub length-zeros : (n : ℕ) → length (zeros n) ≡ n
 unfolding zeros
 length-zeros zero = refl
 length-zeros (suc n) = ap suc (length-zeros n)
 
-zeros_apart : (i j : ℕ) → bytes_eq (zeros i) (zeros j) ≡ true → i ≡ j
+pub zeros_apart : (i j : ℕ) → bytes_eq (zeros i) (zeros j) ≡ true → i ≡ j
 zeros_apart i j e = sym (length-zeros i) ∙ ap length ((bytes_eq-Decides (zeros i) (zeros j)).0 e) ∙ length-zeros j
 
 paths : ℕ → List (List ℕ)

@@ -1,7 +1,7 @@
 -- How the walk goes on: a matrix is reduced, found to be missed or reached, or split.
-use Rattle.std.proofs.Common.{◌≡◌, ℕ, zero, suc, ◌+◌, ◌<◌, ◌≤◌, List, [], ◌∷◌, ◌++◌, map, length, Bool, true, false, ◌&&◌, ◌||◌, not, cond, Option, Some, None, refl, sym, ap, ◌∙◌, subst, arith, inl, inr, ◌⊎◌, ◌↔◌, ltb, ltb-true, get_or-set_same, get_or-set_other, set, get_or, length-set}
-use Rattle.std.specs.Prelude.{All, IsTrue}
-use Rattle.std.specs.List.{list_all, filter_map, slice_index_or}
+use Rattle.std.proofs.Common.{◌≡◌, ℕ, zero, suc, ◌+◌, ◌<◌, ◌≤◌, List, [], ◌∷◌, ◌++◌, map, length, Bool, true, false, ◌&&◌, ◌||◌, cond, Option, Some, None, refl, sym, ap, ◌∙◌, subst, arith, inl, inr, ◌⊎◌, ltb, ltb-true, get_or-set_same, get_or-set_other, set, get_or, length-set}
+use Rattle.std.specs.Prelude.{All}
+use Rattle.std.specs.List.{list_all, filter_map}
 use Rattle.std.proofs.lemmas.Bool.{and_parts, and_from, cases_eq}
 use Rattle.sml_static.specs.Shapes.{Key, Pattern, Wild, Parts, Cell, Literal, Made, is_same_key, is_other_key}
 use Rattle.sml_static.specs.Exhaustive.{Head, HeadLiteral, HeadKey, Another, Splits, no_rows, no_columns, wild, parts, cell, split, SplitsOfAll, done, more, head_of, heads, once, split_by, kept_row, are_named, is_named}
@@ -9,7 +9,7 @@ use Rattle.match_use.specs.Alike.{agree}
 use Rattle.match_use.specs.Heads.{stands}
 use Rattle.match_use.specs.Lines.{Line, plain, rows_agree, all_agree, AreNamed, IsTaken, row_hits, row_misses}
 use Rattle.match_use.specs.Steps.{line_with, kept_line, kept_lines}
-use Rattle.match_use.specs.Reduced.{IsReduced, are_below}
+use Rattle.match_use.specs.Reduced.{IsReduced}
 use Rattle.match_use.specs.Progress.{TakenIn, Total, IsGood, EachGood, IsMarked, Progress}
 use Rattle.match_use.proofs.Tests.{all-filter, pairs-filter}
 use Rattle.match_use.proofs.Equal.{same_key-true, other_key-irrefl}

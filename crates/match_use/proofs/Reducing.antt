@@ -1,15 +1,14 @@
 -- A first column that is dropped or opened leaves what the matrix means.
-use Rattle.std.proofs.Common.{◌≡◌, ℕ, List, [], ◌∷◌, map, Bool, true, false, ◌&&◌, ◌||◌, not, Option, Some, None, refl, sym, ap, ◌∙◌, subst, ◌↔◌, ltb}
-use Rattle.std.specs.Prelude.{IsTrue}
+use Rattle.std.proofs.Common.{◌≡◌, ℕ, List, [], ◌∷◌, map, Bool, true, false, ◌&&◌, ◌||◌, not, refl, sym, ◌∙◌, subst, ◌↔◌, ltb}
 use Rattle.std.specs.List.{list_all}
 use Rattle.std.proofs.lemmas.Bool.{and_parts, and_from}
 use Rattle.sml_static.specs.Shapes.{Pattern, Wild, Parts, Cell, Literal, Made, Shape, AnyShape, PartsShape, CellShape, LiteralShape, MadeShape, first_part, other_parts, content, hits, misses}
-use Rattle.sml_static.specs.Exhaustive.{Splits, no_rows, no_columns, wild, parts, cell, begins_wild, opens_parts, opens_cell, without_first, parts_opened, cell_opened, is_shape, are_named}
+use Rattle.sml_static.specs.Exhaustive.{Splits, wild, parts, cell, begins_wild, opens_parts, opens_cell, without_first, parts_opened, cell_opened, is_shape, are_named}
 use Rattle.match_use.specs.Alike.{agree}
-use Rattle.match_use.specs.Lines.{Line, plain, rows_agree, all_agree, first_shape, other_shapes, row_hits, row_misses, TakenBy, AreNamed, IsTaken}
+use Rattle.match_use.specs.Lines.{Line, plain, rows_agree, all_agree, first_shape, other_shapes, row_hits, row_misses}
 use Rattle.match_use.specs.Steps.{dropped_line, parts_line, cell_line}
-use Rattle.match_use.specs.Reduced.{are_below, IsReduced}
-use Rattle.match_use.proofs.Tests.{all-imp, all-map, pairs-map}
+use Rattle.match_use.specs.Reduced.{IsReduced}
+use Rattle.match_use.proofs.Tests.{all-map, pairs-map}
 use Rattle.match_use.proofs.Inversions.{splits-wild, splits-parts, splits-cell}
 use Rattle.match_use.proofs.Taking.{moved, plain-moved, KeepsRows, taken-moved, taken-moved_back}
 

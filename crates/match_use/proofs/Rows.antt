@@ -1,5 +1,5 @@
 -- The columns of a row that is made.
-use Rattle.std.proofs.Common.{◌≡◌, ◌∷◌, refl}
+use Rattle.std.proofs.Common.{◌≡◌, ◌∷◌}
 use denote.Bor.{Bor}
 use Rattle.match_use.specs.Columns.{column_of}
 use Rattle.match_use.specs.Lines.{columns_of}

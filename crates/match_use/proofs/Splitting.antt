@@ -1,15 +1,15 @@
 -- A column with literals or constructors is split by its heads.
-use Rattle.std.proofs.Common.{◌≡◌, ℕ, suc, List, [], ◌∷◌, ◌++◌, map, length, Bool, true, false, ◌&&◌, ◌||◌, not, cond, eqb, Option, Some, None, refl, sym, ap, ◌∙◌, subst, inl, inr, ◌⊎◌, ◌↔◌}
-use Rattle.std.specs.List.{list_all, list_any, filter_map}
-use Rattle.std.proofs.lemmas.Bool.{and_parts, and_from, and_left, and_right, or_parts, or_from, or_left, or_right, or_cases, cases_Bool, false_from_ne_true, eqb-true, eq-eqb}
+use Rattle.std.proofs.Common.{◌≡◌, ℕ, List, [], ◌∷◌, length, Bool, true, false, ◌&&◌, ◌||◌, cond, eqb, Option, Some, None, refl, sym, ap, ◌∙◌, subst, inl, inr}
+use Rattle.std.specs.List.{list_all, list_any}
+use Rattle.std.proofs.lemmas.Bool.{and_parts, and_from, and_left, or_parts, or_from, or_left, or_right, cases_Bool, false_from_ne_true, eqb-true, eq-eqb}
 use Rattle.tl_text.specs.declared.lit.Lit.{Lit}
 use Rattle.sml_static.specs.Shapes.{Key, Of, Exn, Pattern, Wild, Parts, Cell, Literal, Made, Shape, AnyShape, PartsShape, CellShape, LiteralShape, MadeShape, argument, is_same_key, is_other_key, is_same_literal, is_other_literal, has_literal, has_other_literal, has_key, has_other_key, hits, misses}
-use Rattle.sml_static.specs.Exhaustive.{Head, HeadLiteral, HeadKey, Another, is_same_head, head_of, heads, split_by, has_others, kept_row, is_named, are_named, is_shape, can_stand, can_be_made}
+use Rattle.sml_static.specs.Exhaustive.{Head, HeadLiteral, HeadKey, Another, is_same_head, split_by, kept_row, is_named, are_named, is_shape, can_stand, can_be_made}
 use Rattle.match_use.specs.Heads.{stands}
 use Rattle.match_use.specs.Lines.{Line, plain, first_shape, other_shapes, row_hits, row_misses, TakenBy, AreNamed, IsTaken}
 use Rattle.match_use.specs.Steps.{kept_lines}
 use Rattle.match_use.proofs.Equal.{same_key-true, same_key-refl, same_literal-true, same_literal-refl, other_key-irrefl, other_literal-irrefl, literal_type, key_type, literal_types, key_types}
-use Rattle.match_use.proofs.Pigeons.{are_unlike, same_head-trans, same_head-sym}
+use Rattle.match_use.proofs.Pigeons.{are_unlike, same_head-trans}
 use Rattle.sml_static.specs.WellFormed.{are_distinct}
 use Rattle.std.specs.Str.{bytes_eq}
 use Rattle.match_use.proofs.FirstColumn.{is_typed, keyed, in_column, OneOf, one_of-passes, any-one_of, splits_by, splits_by-another, split_by-cases, IsSplit, typed_heads, keyed_heads}

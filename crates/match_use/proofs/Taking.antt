@@ -1,11 +1,11 @@
 -- Which rule shapes are taken by, before and after the rows are changed.
-use Rattle.std.proofs.Common.{◌≡◌, ℕ, List, [], ◌∷◌, map, Bool, true, false, ◌&&◌, ◌||◌, Option, Some, None, refl, sym, ap, ◌∙◌, inl, inr, ◌⊎◌}
+use Rattle.std.proofs.Common.{◌≡◌, ℕ, List, [], ◌∷◌, map, Bool, true, false, Option, Some, None, refl, sym, ap, ◌∙◌, inl, inr, ◌⊎◌}
 use Rattle.std.specs.List.{list_all, filter_map, cons_option}
 use Rattle.std.proofs.lemmas.Bool.{and_parts}
 use Rattle.sml_static.specs.Shapes.{Pattern, Shape}
 use Rattle.sml_static.specs.Exhaustive.{Head, kept_row}
 use Rattle.match_use.specs.Lines.{Line, plain, row_hits, row_misses, TakenBy}
-use Rattle.match_use.specs.Steps.{line_with, kept_line, kept_lines}
+use Rattle.match_use.specs.Steps.{line_with, kept_lines}
 
 -- a line with its columns changed
 abbrev pub moved : (List Pattern → List Pattern) → Line → Line

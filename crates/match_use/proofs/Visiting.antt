@@ -1,17 +1,17 @@
 -- What a look at one matrix changes.
-use Rattle.std.proofs.Common.{◌≡◌, ℕ, zero, suc, ◌+◌, ◌-◌, ◌*◌, ◌<◌, ◌≤◌, List, [], ◌∷◌, ◌++◌, map, reverse, length, replicate, set, get_or, Bool, true, false, Option, Some, None, refl, sym, ap, ◌∙◌, subst, arith, inl, inr, ◌⊎◌, ◌↔◌, length-append, length-set, ltb, ltb-true, Vec, Global}
+use Rattle.std.proofs.Common.{◌≡◌, ℕ, zero, suc, ◌+◌, ◌-◌, ◌<◌, ◌≤◌, List, [], ◌∷◌, ◌++◌, map, reverse, length, replicate, set, Bool, true, false, Option, Some, None, refl, sym, ap, ◌∙◌, subst, arith, inl, inr, length-append, length-set, ltb, ltb-true, Vec, Global}
 use denote.Bor.{Bor}
 use Rattle.std.proofs.lemmas.Bool.{and_parts}
 use Rattle.match_use.specs.declared.column.Column.{Column}
-use Rattle.std.specs.Prelude.{IsTrue, IfOk, Result, Ok, Err}
+use Rattle.std.specs.Prelude.{IfOk, Result, Ok, Err}
 use Rattle.std.specs.List.{list_all, slice_get, slice_index_or}
 use Rattle.sml_static.specs.Shapes.{Pattern}
 use Rattle.sml_static.specs.Exhaustive.{Head, Splits, heads, split_by}
 use Rattle.match_use.specs.Heads.{stands}
-use Rattle.match_use.specs.Lines.{Line, line_of, lines_of, columns_of, plain, all_agree, AreNamed, IsTaken}
+use Rattle.match_use.specs.Lines.{Line, line_of, lines_of, columns_of, plain, all_agree, IsTaken}
 use Rattle.match_use.specs.Steps.{first_step, kept_lines}
 use Rattle.match_use.specs.Reduced.{IsReduced, IsReady, are_below}
-use Rattle.match_use.specs.Progress.{StartsWide, pending, TakenIn, IsGood, IsMarked, Progress, Visited, IsSplitting}
+use Rattle.match_use.specs.Progress.{StartsWide, pending, IsMarked, Progress, Visited, IsSplitting}
 use Rattle.match_use.specs.declared.row.Row.{Row}
 use Rattle.match_use.specs.declared.row.Columns.{Columns}
 use Rattle.match_use.specs.declared.row.Columns.TheVariants.{End, More}

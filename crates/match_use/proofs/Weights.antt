@@ -1,14 +1,13 @@
 -- A matrix weighs less after its first column is dropped or opened, and how that column is, its first row with something tells.
-use Rattle.std.proofs.Common.{◌≡◌, ℕ, ◌+◌, ◌*◌, ◌<◌, ◌≤◌, List, [], ◌∷◌, map, length, Bool, true, false, ◌&&◌, not, refl, sym, ap, ◌∙◌, subst, arith}
+use Rattle.std.proofs.Common.{◌≡◌, ◌+◌, ◌<◌, ◌≤◌, List, [], ◌∷◌, map, length, Bool, true, false, not, refl, sym, ap, ◌∙◌, subst, arith}
 use Rattle.std.specs.List.{list_all}
-use Rattle.std.proofs.lemmas.Bool.{and_parts, and_from, cases_Bool, not_from_false}
+use Rattle.std.proofs.lemmas.Bool.{and_parts, cases_Bool, not_from_false}
 use Rattle.std.proofs.Common.{inl, inr}
 use Rattle.sml_static.specs.Shapes.{Pattern, Wild, Parts, Cell, Literal, Made}
 use Rattle.sml_static.specs.Exhaustive.{begins_wild, opens_parts, opens_cell, without_first, parts_opened, cell_opened}
-use Rattle.match_use.specs.Alike.{agree}
 use Rattle.match_use.specs.Lines.{Line, plain, rows_agree, all_agree}
 use Rattle.match_use.specs.Steps.{first_step, dropped_line, parts_line, cell_line}
-use Rattle.match_use.specs.Weights.{nodes, row_nodes, all_nodes, width, weight}
+use Rattle.match_use.specs.Weights.{row_nodes, all_nodes, width, weight}
 use Rattle.match_use.specs.declared.reduce.Step.TheVariants as step
 use Rattle.match_use.proofs.Tests.{all-imp}
 use Rattle.match_use.proofs.Taking.{plain-moved}

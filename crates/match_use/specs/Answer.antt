@@ -1,5 +1,5 @@
 -- What is answered of the rules of a match.
-use Rattle.std.specs.Prelude.{◌≡◌, ◌↔◌, ◌+◌, ◌<◌, ◌≤◌, ℕ, suc, Bool, true, false, IsTrue, List, [], ◌∷◌, map, length, replicate}
+use Rattle.std.specs.Prelude.{◌≡◌, ◌↔◌, ◌+◌, ◌<◌, ◌≤◌, ℕ, Bool, true, false, IsTrue, List, [], ◌∷◌, map, length, replicate}
 use Rattle.std.specs.List.{slice_index_or}
 use Rattle.sml_static.specs.Shapes.{Pattern, pattern_of}
 use Rattle.sml_static.specs.Exhaustive.{Splits, IsExhaustive, IsReached}

@@ -1,5 +1,5 @@
 -- The patterns that columns stand for.
-use Rattle.std.specs.Prelude.{ℕ, List, map}
+use Rattle.std.specs.Prelude.{map}
 use Rattle.tl_text.specs.Pairs.{seconds, map_second}
 use Rattle.sml_static.specs.Shapes.{Pattern, Wild, Parts, Cell, Literal, Made, pattern_of, tuple_of}
 use Rattle.match_use.specs.declared.column.Column.{Column}

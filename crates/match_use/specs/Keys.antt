@@ -1,5 +1,4 @@
 -- Constructors and heads that are read from patterns, as those of the definitions.
-use Rattle.std.specs.Prelude.{ℕ}
 use Rattle.sml_static.specs.Shapes as static
 use Rattle.sml_static.specs.Exhaustive as static_head
 use Rattle.match_use.specs.declared.key.Key.{Key}

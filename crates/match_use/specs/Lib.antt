@@ -8,3 +8,4 @@ pub mod Weights
 pub mod Heads
 pub mod Progress
 pub mod Answer
+pub mod Standing

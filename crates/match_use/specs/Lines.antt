@@ -1,5 +1,5 @@
 -- The rows of a matrix, and what a shape for each column does to them.
-use Rattle.std.specs.Prelude.{◌≡◌, ◌&&◌, ◌||◌, ◌⊎◌, ℕ, nat_lt, Bool, true, false, IsTrue, List, [], ◌∷◌, map, Option, Some, None}
+use Rattle.std.specs.Prelude.{◌≡◌, ◌&&◌, ◌||◌, ◌⊎◌, ℕ, Bool, true, false, IsTrue, List, [], ◌∷◌, map, Option, Some, None}
 use Rattle.std.specs.List.{list_all}
 use Rattle.sml_static.specs.Shapes.{Pattern, Shape, AnyShape, hits, misses}
 use Rattle.sml_static.specs.Exhaustive.{are_named, is_shape}

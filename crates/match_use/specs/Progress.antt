@@ -1,5 +1,5 @@
 -- Matrices that are still to be looked at, and what has been found so far.
-use Rattle.std.specs.Prelude.{◌≡◌, ◌⊎◌, ◌↔◌, ◌+◌, ◌-◌, ◌*◌, ◌<◌, ◌≤◌, ℕ, Bool, true, false, IsTrue, List, [], ◌∷◌, map, reverse, length, Option, Some, None, Vec}
+use Rattle.std.specs.Prelude.{◌≡◌, ◌⊎◌, ◌↔◌, ◌+◌, ◌-◌, ◌*◌, ◌<◌, ◌≤◌, ℕ, Bool, false, IsTrue, List, [], ◌∷◌, map, reverse, length, Option, Some, None, Vec}
 use Rattle.std.specs.List.{slice_index_or}
 use Rattle.std.proofs.Common.{Global}
 use Rattle.sml_static.specs.Exhaustive.{Splits}

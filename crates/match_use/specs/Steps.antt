@@ -1,6 +1,5 @@
 -- What becomes of a matrix when its first column is dropped, opened or split.
 use Rattle.std.specs.Prelude.{ℕ, List, [], ◌∷◌, Option, Some, None}
-use Rattle.std.specs.Option.{option_map}
 use Rattle.std.specs.List.{filter_map}
 use Rattle.sml_static.specs.Shapes.{Pattern, Wild, Parts, Cell, Literal, Made}
 use Rattle.sml_static.specs.Exhaustive.{Head, without_first, parts_opened, cell_opened, kept_row}

@@ -8,14 +8,18 @@
 //! Knows nothing of: types beyond what a constructor's pattern tells, expressions, warnings.
 #![tactic(auto)]
 
+mod agree;
 mod column;
+mod constructor;
 mod head;
 mod key;
 mod matches;
 mod reduce;
 mod row;
 mod split;
+mod typed;
 mod walk;
 
 pub use matches::{UseAnswer, usefulness};
+pub use typed::are_of_one_type;
 pub use walk::SPLITS;

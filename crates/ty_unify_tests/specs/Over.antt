@@ -1,5 +1,5 @@
 -- Types over two nodes, as the tests write them.
-use Rattle.std.specs.Prelude.{ℕ, ◌==◌, ◌&&◌, ◌||◌, Bool, true, false}
+use Rattle.std.specs.Prelude.{ℕ, ◌==◌, ◌&&◌, ◌||◌, Bool, false}
 use Rattle.std.specs.List.{list_all}
 use Rattle.tl_text.specs.Pairs.{seconds}
 use Rattle.sml_static.specs.declared.ty.Ty.{Ty, fold-Ty}

@@ -1,42 +1,37 @@
-ghost use Rattle.std.specs.Prelude.{◌≡◌, ℕ, IfOk, map};
-ghost use Rattle.std.specs.List.{list_all};
-ghost use Rattle.tl_text.specs.Pairs.{map_second, seconds};
+ghost use Rattle.std.specs.Prelude.{ℕ, IfOk};
 ghost use Rattle.ty_unify.specs.Stores.{HasNode};
-ghost use Rattle.ty_unify_tests.specs.Over as over;
 
+use crate::two_nodes::is_over;
+use crate::types::{applied, arrow, named, record};
 use sml_static::{Class, Label, Ty, TyName, VarKind};
 use std::alloc::Global;
 use std::test::Fail;
-use tl_text::{Boxed, List, Name, NoMemory, Place};
+use tl_text::{List, Name, NoMemory, Place};
 use ty_unify::{Late, Node, Store, UnifyFault};
 
-fn named(alloc: Global, id: u32, arg: Option<Ty>) -> Result<Ty, NoMemory> {
-    let mut args = List::new(alloc);
-    let mut arity = 0;
-    if let Some(arg) = arg {
-        args.push(arg)?;
-        arity = 1;
-    }
-    let name = TyName {
-        id,
-        arity,
-        equality: id != 5,
-    };
-    Ok(Ty::Con(name, args))
-}
+const INT: TyName = TyName {
+    id: 0,
+    arity: 0,
+    equality: true,
+};
 
-fn record(alloc: Global, first: Ty, label: Label, second: Ty) -> Result<Ty, NoMemory> {
-    let mut fields = List::new(alloc);
-    fields.push((Label::Num(1), first))?;
-    fields.push((label, second))?;
-    Ok(Ty::Fields(fields))
-}
+const EXN: TyName = TyName {
+    id: 5,
+    arity: 0,
+    equality: false,
+};
 
-fn arrow(alloc: Global, from: Ty, to: Ty) -> Result<Ty, NoMemory> {
-    let from = Boxed::new(alloc, from)?;
-    let to = Boxed::new(alloc, to)?;
-    Ok(Ty::Arrow(from, to))
-}
+const LIST: TyName = TyName {
+    id: 6,
+    arity: 1,
+    equality: true,
+};
+
+const REF: TyName = TyName {
+    id: 7,
+    arity: 1,
+    equality: true,
+};
 
 /// A type that is written backwards: operands first, as `ii>` for `int -> int`. `i` is int, `x` exn, `u` unit, `a` and `b` are
 /// two nodes; `*` is a pair, `q` a record with the labels 1 and w, `>` an arrow, and `l` and `r` apply list and ref.
@@ -44,8 +39,8 @@ fn read(alloc: Global, text: &[u8], a: Node, b: Node) -> Result<Ty, Fail> {
     let mut stack = Vec::new(alloc);
     for byte in text {
         let ty = match *byte {
-            b'i' => named(alloc, 0, None)?,
-            b'x' => named(alloc, 5, None)?,
+            b'i' => named(alloc, INT),
+            b'x' => named(alloc, EXN),
             b'u' => Ty::Fields(List::new(alloc)),
             b'a' => Ty::Free(a.number),
             b'b' => Ty::Free(b.number),
@@ -59,10 +54,10 @@ fn read(alloc: Global, text: &[u8], a: Node, b: Node) -> Result<Ty, Fail> {
 fn put_together(alloc: Global, sign: u8, stack: &mut Vec<Ty>) -> Result<Ty, Fail> {
     let last = stack.pop().ok_or("no operand")?;
     if sign == b'l' {
-        return Ok(named(alloc, 6, Some(last))?);
+        return Ok(applied(alloc, LIST, last)?);
     }
     if sign == b'r' {
-        return Ok(named(alloc, 7, Some(last))?);
+        return Ok(applied(alloc, REF, last)?);
     }
     let first = stack.pop().ok_or("no first operand")?;
     match sign {
@@ -73,44 +68,6 @@ fn put_together(alloc: Global, sign: u8, stack: &mut Vec<Ty>) -> Result<Ty, Fail
         }
         _ => Ok(arrow(alloc, first, last)?),
     }
-}
-
-/// Whether a type has no bound variable, and no free one but these.
-#[cycle(over)]
-fn is_over(ty: &Ty, a: u32, b: u32) -> bool
-    ensures { result ≡ over.is_over a b ty.now }
-{
-    match ty {
-        Ty::Free(n) => *n == a || *n == b,
-        Ty::Bound(_) => false,
-        Ty::Fields(fields) => fields_over(fields.items(), a, b),
-        Ty::Arrow(from, to) => is_over(from.get(), a, b) && is_over(to.get(), a, b),
-        Ty::Con(_, args) => all_over(args.items(), a, b),
-    }
-}
-
-#[cycle(over)]
-fn fields_over(fields: &[(Label, Ty)], a: u32, b: u32) -> bool
-    ensures { result ≡ list_all (λ f. f) (seconds (map_second (over.is_over a b) fields.now)) }
-{
-    for field in fields {
-        if !is_over(&field.1, a, b) {
-            return false;
-        }
-    }
-    true
-}
-
-#[cycle(over)]
-fn all_over(tys: &[Ty], a: u32, b: u32) -> bool
-    ensures { result ≡ list_all (λ t. t) (map (over.is_over a b) tys.now) }
-{
-    for ty in tys {
-        if !is_over(ty, a, b) {
-            return false;
-        }
-    }
-    true
 }
 
 /// The node of a type over two nodes.

@@ -1,5 +1,4 @@
-use Rattle.std.proofs.Common.{sym, ◌≡◌, ◌<◌, length}
-use Rattle.match_use.specs.Lines.{lines_of}
+use Rattle.std.proofs.Common.{sym}
 use Rattle.match_use.proofs.Opening.{some_lines, opened-dropped, opened-parts, opened-cell}
 use Rattle.match_use.proofs.reduce.opened_once.Goals as goal
 

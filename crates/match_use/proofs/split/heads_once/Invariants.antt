@@ -1,4 +1,4 @@
-use Rattle.std.proofs.Common.{◌≡◌, map, drop, Bool, true}
+use Rattle.std.proofs.Common.{◌≡◌, map, drop, true}
 use Rattle.std.specs.List.{list_all}
 use Rattle.sml_static.specs.Exhaustive.{heads}
 use Rattle.match_use.specs.Keys.{shared_head}

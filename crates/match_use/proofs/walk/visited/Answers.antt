@@ -1,4 +1,4 @@
-use Rattle.std.proofs.Common.{◌≡◌, List, Bool, true, false, set, sym, ap, subst, ◌∙◌}
+use Rattle.std.proofs.Common.{List, true, false, set, sym, ap, subst, ◌∙◌}
 use Rattle.std.specs.List.{slice_get}
 use Rattle.match_use.specs.declared.walk.TheConstants.{SPLITS}
 use Rattle.match_use.specs.declared.row.Row.{Row}

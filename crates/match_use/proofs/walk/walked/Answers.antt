@@ -1,4 +1,4 @@
-use Rattle.std.proofs.Common.{◌≡◌, ◌∷◌, [], List, Bool, true, false, length, sym, ap, subst, ◌∙◌, arith}
+use Rattle.std.proofs.Common.{◌≡◌, ◌∷◌, [], List, true, length, sym, ap, subst, ◌∙◌, arith}
 use Rattle.match_use.specs.declared.walk.TheConstants.{SPLITS}
 use Rattle.match_use.specs.Lines.{Line, lines_of}
 use Rattle.match_use.specs.Progress.{pending, EachGood, Progress, Visited}
