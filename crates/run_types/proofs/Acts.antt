@@ -171,7 +171,7 @@ calls_ok go l gk w fs c f a t v s o wl hm hv q h m =
     let e : TArr a t ≡ TArr m.1 m.2 = some_ty (TArr a t) (TArr m.1 m.2) (sym q ∙ m.4) in
     subst (λ x. Ok (val_has t) w (perform go (calls fs v s x) s)) (sym m.3)
     (gk.body_ok w g (group fs) (body (m.0).0 (m.0).1 v) t s wl (group_puts w fs c h)
-    (m.5, m.1, subst (HasVal w v) (ap dom_of e) hv, inl (subst (λ r. HasRules w g (λ u. u ≡ m.1) (m.0).1 r) (sym (ap cod_of e)) m.6)) hm)
+    (inl (m.5, m.1, subst (HasVal w v) (ap dom_of e) hv, inl (subst (λ r. HasRules w g (λ u. u ≡ m.1) (m.0).1 r) (sym (ap cod_of e)) m.6))) hm)
 
 gives_ok : (go : Go) (w : World) (t : Ty) (s : St) (o : Option Val) → Holds w s → GivesVal w t o → Ok (val_has t) w (perform go (gives o s) s)
 gives_ok go w t s None hm h = h
@@ -184,7 +184,7 @@ written_ok w s t hm = record { cells = hm.cells; exns = hm.exns; bools = hm.bool
 alloc_ok : (w : World) (t : Ty) (s : St) → Holds w s → (v : Val) → HasVal w v t → Good (val_has (TRef t)) w (Loc (length s.mem)) (with_cell v s)
 alloc_ok w t s hm v h =
     let k : World = record { cells = w.cells ++ t ∷ []; exns = w.exns; datas = w.datas; givens = w.givens } in
-    let u : Sub w k = record { cells = λ l x q. get_add w.cells t l x q; exns = λ l x q. q; datas = λ d b c x q. q; givens = refl } in
+    let u : Sub w k = record { cells = λ l x q. get_add w.cells t l x q; exns = λ l x q. q; datas = λ d b c x q. q; same = λ d b c x q. q; givens = refl } in
     record {
       k = k;
       sub = u;
@@ -317,7 +317,7 @@ prim_ok go w CharCode NoVals x a r s q h hm =
 prim_ok go w _ vs x a r s q h hm = absurd q
 
 apply_ok : (go : Go) (l : List Given) → GoOk l go → (w : World) (a t : Ty) (s : St) → w.givens ≡ l → Holds w s → (v x : Val) → HasVal w v (TArr a t) → HasVal w x a → Ok (val_has t) w (perform go (act Apply (Item v (Item x NoVals)) s) s)
-apply_ok go l gk w a t s wl hm (Clo f rs) x (inl hv) hx = gk.body_ok w no_ctx empty (body f rs x) t s wl (no_env w) (hv.0, a, hx, inl hv.1) hm
+apply_ok go l gk w a t s wl hm (Clo f rs) x (inl hv) hx = gk.body_ok w no_ctx empty (body f rs x) t s wl (no_env w) (inl (hv.0, a, hx, inl hv.1)) hm
 apply_ok go l gk w a t s wl hm (Clo f rs) x (inr hv) hx = gk.given_ok w (Clo f rs) x a t s wl hv hx hm
 apply_ok go l gk w a t s wl hm (Rec fs f) x hv hx = calls_ok go l gk w fs hv.1 f a t x s (find f fs) wl hm hx hv.2 hv.3 (found_rules w (join (names fs) (monos hv.1) no_ctx) hv.1 f fs hv.3 hv.0)
 apply_ok go l gk w a t s wl hm (Prim p vs) x hv hx = prim_ok go w p vs x a t s hv hx hm
@@ -398,7 +398,7 @@ abbrev pub exn_world : World → Tys → World
 exn_world w ts = record { cells = w.cells; exns = w.exns ++ ts ∷ []; datas = w.datas; givens = w.givens }
 
 pub exn_sub : (w : World) (ts : Tys) → Sub w (exn_world w ts)
-exn_sub w ts = record { cells = λ l x q. q; exns = λ l x q. get_add w.exns ts l x q; datas = λ d b c x q. q; givens = refl }
+exn_sub w ts = record { cells = λ l x q. q; exns = λ l x q. get_add w.exns ts l x q; datas = λ d b c x q. q; same = λ d b c x q. q; givens = refl }
 
 pub exn_holds : (w : World) (ts : Tys) (x : Name) (s : St) → Holds w s → Holds (exn_world w ts) (drawn x s)
 exn_holds w ts x s hm =

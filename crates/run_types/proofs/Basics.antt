@@ -1,13 +1,14 @@
 -- Where each text begins, its state and its values are typed.
-use Rattle.std.proofs.Common.{◌≡◌, ℕ, List, [], ◌∷◌, Option, Some, None, Bool, true, false, if◌then◌else◌, slice_get, refl, sym, subst}
+use Rattle.std.proofs.Common.{◌≡◌, ◌⊎◌, ℕ, inl, inr, List, [], ◌∷◌, Option, Some, None, Bool, true, false, if◌then◌else◌, slice_get, refl, sym, subst}
 use Rattle.run_types.proofs.Taken.{some_tys}
-use Rattle.run_types.specs.Basic.{SchemeRow, basic_world, for_all, predefined_types, schemes_of, text_types}
+use Rattle.run_types.specs.Basic.{Basic, SchemeRow, basic_world, for_all, predefined_types, schemes_of, text_types}
 use Rattle.run_types.specs.Safe.{GivensOk}
 use Rattle.run_types.specs.TypedItems.{scope_has}
-use Rattle.run_types.specs.Types.{At, Bools, Given, HasVal, Holds, Lists, Mono, NilT, PrimTy, Puts, Scheme, TArr, TChar, TExn, TInt, TRef, TString, TVar, Ty, Tys, UseAt, World, bool_ty, no_ctx, sub, unit_ty, vars_by}
+use Rattle.run_types.specs.Types.{At, Bools, ConsT, Given, HasVal, Holds, Lists, Mono, NilT, PrimTy, Puts, Scheme, TArr, TChar, TExn, TInt, TRef, TString, TVar, Ty, Tys, UseAt, World, bool_ty, list_ty, no_ctx, sub, unit_ty, vars_by}
+use Rattle.runs.proofs.Paths.{part_same}
 use Rattle.runs.specs.Forms.{predefined_rows, text_scope, values_of}
 use Rattle.runs.specs.Names.{Name, Part, same, same_part}
-use Rattle.runs.specs.Primitives.{false_part, start, true_part}
+use Rattle.runs.specs.Primitives.{cons_part, false_part, nil_part, start, true_part}
 use Rattle.runs.specs.Tree.{CharCode, Deref, NoVals, Not, Prim, Primitive, PrintString, Raise, Ref, StringOfInt, Val}
 
 truth_case : (b c : Bool) (args : Tys) → (if b then Some NilT else (if c then Some NilT else None)) ≡ Some args → (args ≡ NilT) × (d : Bool) × ((if b then Some true else (if c then Some false else None)) ≡ Some d)
@@ -23,6 +24,28 @@ basic_bools more givens = (refl, refl)
 
 pub basic_lists : (more : ℕ → Bool → Part → Option Tys) (givens : List Given) → Lists (basic_world more givens)
 basic_lists more givens = (refl, refl)
+
+only_truths : (x y : Bool) (c : Part) (args : Tys) → same_part c true_part ≡ x → same_part c false_part ≡ y → (if x then Some NilT else (if y then Some NilT else None)) ≡ Some args → (args ≡ NilT) × ((c ≡ true_part) ⊎ (c ≡ false_part))
+only_truths true y c args p q h = (sym (some_tys NilT args h), inl (part_same c true_part p))
+only_truths false true c args p q h = (sym (some_tys NilT args h), inr (part_same c false_part q))
+only_truths false false c args p q h = absurd (cc h)
+
+abbrev cons_args : Tys
+cons_args = ConsT (TVar 0) (ConsT (list_ty (TVar 0)) NilT)
+
+only_conses : (x y : Bool) (c : Part) (args : Tys) → same_part c nil_part ≡ x → same_part c cons_part ≡ y → (if x then Some NilT else (if y then Some cons_args else None)) ≡ Some args → ((c ≡ nil_part) × (args ≡ NilT)) ⊎ ((c ≡ cons_part) × (args ≡ cons_args))
+only_conses true y c args p q h = inl (part_same c nil_part p, sym (some_tys NilT args h))
+only_conses false true c args p q h = inr (part_same c cons_part q, sym (some_tys cons_args args h))
+only_conses false false c args p q h = absurd (cc h)
+
+pub basic_is_basic : (more : ℕ → Bool → Part → Option Tys) (givens : List Given) → Basic (basic_world more givens)
+basic_is_basic more givens =
+    record {
+      bools = (refl, refl);
+      lists = (refl, refl);
+      only_bools = λ c args h. only_truths (same_part c true_part) (same_part c false_part) c args refl refl h;
+      only_lists = λ c args h. only_conses (same_part c nil_part) (same_part c cons_part) c args refl refl h;
+    }
 
 -- the values of a table have the schemes of another one, row by row
 abbrev RowsHave : World → List SchemeRow → List (Name × Val) → Type 0

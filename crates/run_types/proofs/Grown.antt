@@ -1,5 +1,6 @@
 -- What has a type keeps it in a larger world.
 use Rattle.std.proofs.Common.{◌≡◌, inl, inr, List, [], ◌∷◌, ◌++◌, Option, Some, None, true, slice_get, refl, sym, ◌∙◌, subst}
+use Rattle.run_types.proofs.Shapes.{whole_up}
 use Rattle.run_types.specs.Safe.{Sub}
 use Rattle.run_types.specs.Types.{At, Binds, Bools, ConsT, Ctx, Has, HasAll, HasFall, HasFound, HasFuns, HasItems, HasPat, HasPats, HasRules, HasTag, HasVal, HasVals, HoldsAll, IsGiven, Mono, NilT, OpTy, OperTy, PrimTy, Puts, Scheme, ScopeTy, TArr, TData, TExn, TNam, TRef, TTup, Ty, Types, Tys, UseAt, World, exn_ctx, inside_ty, inst_all, join, joined, monos, no_ctx, under_ty, with_struct_ty}
 use Rattle.runs.specs.Env.{Env, binds, names}
@@ -8,10 +9,10 @@ use Rattle.runs.specs.Primitives.{body, cons_part, false_part, nil_part, true_pa
 use Rattle.runs.specs.Tree.{Absent, Alias, Applied, Apply, Arith, Assign, Broken, Build, Case, CharCode, Clo, Compare, Con, Concat, Cons, Datum, Deref, Drawn, End, Exception, Exn, Exp, Exps, Fail, Fall, Fn, Found, Fun, Functions, FunctorOf, Funs, Group, Identical, InMod, InStruct, Is, Item, Items, LetMod, ListOf, Lit, Loc, Make, Nam, Named, NewExn, Nil, NoFuns, NoVals, Node, Not, Op, Oper, Operator, PAny, PCell, PCon, PExn, PLayer, PLit, PMore, PNil, PTup, PVar, Pair, Pat, Pats, Prim, Primitive, PrintString, Raise, Raises, Rec, Ref, Rule, Rules, Stop, StringOfInt, Struct, StructOf, Stuck, Tag, There, Try, Tup, Val, Vals, Value, Var}
 
 pub same_sub : (w : World) → Sub w w
-same_sub w = record { cells = λ l t h. h; exns = λ l t h. h; datas = λ d b c t h. h; givens = refl }
+same_sub w = record { cells = λ l t h. h; exns = λ l t h. h; datas = λ d b c t h. h; same = λ d b c t h. h; givens = refl }
 
 pub sub_trans : (w k j : World) → Sub w k → Sub k j → Sub w j
-sub_trans w k j a b = record { cells = λ l t h. b.cells l t (a.cells l t h); exns = λ l t h. b.exns l t (a.exns l t h); datas = λ d e c t h. b.datas d e c t (a.datas d e c t h); givens = b.givens ∙ a.givens }
+sub_trans w k j a b = record { cells = λ l t h. b.cells l t (a.cells l t h); exns = λ l t h. b.exns l t (a.exns l t h); datas = λ d e c t h. b.datas d e c t (a.datas d e c t h); same = λ d e c t h. a.same d e c t (b.same d e c t h); givens = b.givens ∙ a.givens }
 
 tag_more : (w k : World) → Sub w k → (g : Ctx) (t : Tag) (ts : Tys) → HasTag w g t ts → HasTag k g t ts
 tag_more w k s g (Named x) ts h = h
@@ -79,9 +80,10 @@ mutual
   has_up Z w k s (Group fs b) g t h =
       (h.0, (λ f u i o. let m = h.1 f u i o in (m.0, m.1, funs_up Z w k s fs (join (names fs) (monos m.0) g) m.0 m.2)), has_up Z w k s b (join (names fs) h.0 g) t h.2)
   has_up Z w k s (Node op es) g t h = (h.0, all_up Z w k s es g h.0 h.1, op_up w k s op h.0 t h.2)
-  has_up Z w k s (Case f a rs) g t (hf, u, ha, inl h) = (fall_up Z w k s f rs hf, u, has_up Z w k s a g u ha, inl (rules_up Z w k s rs g (λ a1. a1 ≡ u) (λ a1. a1 ≡ u) (λ a1 q. q) t h))
-  has_up Z w k s (Case f a rs) g t (hf, u, ha, inr h) =
-      (fall_up Z w k s f rs hf, u, has_up Z w k s a g u ha, inr (h.0, rules_up Z w k s rs g (λ a1. Has w g a a1) (λ a1. Has k g a a1) (λ a1 q. has_up Z w k s a g a1 q) t h.1))
+  has_up Z w k s (Case f a rs) g t (inr h) = inr (h.0, whole_up w k s h.0 rs h.1, has_up Z w k s a g h.0 h.2, rules_up Z w k s rs g (λ a1. a1 ≡ h.0) (λ a1. a1 ≡ h.0) (λ a1 q. q) t h.3)
+  has_up Z w k s (Case f a rs) g t (inl (hf, u, ha, inl h)) = inl (fall_up Z w k s f rs hf, u, has_up Z w k s a g u ha, inl (rules_up Z w k s rs g (λ a1. a1 ≡ u) (λ a1. a1 ≡ u) (λ a1 q. q) t h))
+  has_up Z w k s (Case f a rs) g t (inl (hf, u, ha, inr h)) =
+      inl (fall_up Z w k s f rs hf, u, has_up Z w k s a g u ha, inr (h.0, rules_up Z w k s rs g (λ a1. Has w g a a1) (λ a1. Has k g a a1) (λ a1 q. has_up Z w k s a g a1 q) t h.1))
   has_up Z w k s (NewExn x b) g t h = (h.0, has_up Z w k s b (join (same x) (λ y. Some (Mono (TNam h.0))) g) t h.1)
   has_up Z w k s (LetMod e p is b) g t h =
       (h.0, (λ x u i. found_up Z w k s (UseAt (g x) u) u (e x) (h.1 x u i)), h.2, items_up Z w k s is (record { env = h.0; own = no_ctx }) h.2 h.3, has_up Z w k s b (under_ty p (h.2).own g) t h.4)

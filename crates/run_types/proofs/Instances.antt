@@ -314,7 +314,8 @@ mutual
   written_at Z (Case fl a rs) w z r rl ds g t f c l (hf, ks, u, ha, inl q, hr) =
       let n = length ds in
       let us0 = ints ks in
-      let u0 = real r (vars_by n f us0) u in (
+      let u0 = real r (vars_by n f us0) u in
+      inl (
         rl.falls fl rs hf,
         u0,
         weaken z (at r (vars_by n f us0) g) (at r f g) a u0 (outer_puts r z n f us0 g l) (written_at Z a w z r rl (ds ++ ks) g u (vars_by n f us0) (chosen_own ds ks f us0 c (ints_fit ks)) (levels_app ds ks g l) ha),
@@ -324,7 +325,7 @@ mutual
       let n = length ds in
       let us0 = ints ks in
       let each : Each r ds ks f (λ a1. Has z (at r f g) a a1) u = λ us i. weaken z (at r (vars_by n f us) g) (at r f g) a (real r (vars_by n f us) u) (outer_puts r z n f us g l) (written_at Z a w z r rl (ds ++ ks) g u (vars_by n f us) (chosen_own ds ks f us c i) (levels_app ds ks g l) ha) in
-      (rl.falls fl rs hf, real r (vars_by n f us0) u, each us0 (ints_fit ks), inr (st, rules_written Z rs w z r rl ds g ks u t f (λ a1. Has z (at r f g) a a1) c l hr each))
+      inl (rl.falls fl rs hf, real r (vars_by n f us0) u, each us0 (ints_fit ks), inr (st, rules_written Z rs w z r rl ds g ks u t f (λ a1. Has z (at r f g) a a1) c l hr each))
   written_at Z (NewExn x b) w z r rl ds g t f c l h = (
     real_all r f h.0,
     weaken z (at r f (inner (same x) (λ y. Some (Gen (length ds) [] (TNam h.0))) g)) (join (same x) (λ y. Some (Mono (TNam (real_all r f h.0)))) (at r f g)) b (real r f t) (λ y v u. exn_case r ds f (same x y) h.0 (g y) v c u)

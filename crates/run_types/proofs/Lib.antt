@@ -1,7 +1,9 @@
+pub mod Shapes
 pub mod Grown
 pub mod Put
 pub mod Taken
 pub mod Acts
+pub mod Wholes
 pub mod Scopes
 pub mod Sound
 pub mod Rowed
@@ -12,3 +14,4 @@ pub mod Equal
 pub mod Basics
 pub mod TypedTexts
 pub mod Quotient
+pub mod Choice

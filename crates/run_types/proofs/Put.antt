@@ -1,6 +1,7 @@
 -- What has a type keeps it when values are put in.
 use Rattle.std.proofs.Common.{◌≡◌, ℕ, inl, inr, [], ◌∷◌, Option, Some, None, Bool, true, false, if◌then◌else◌, sym, ◌∙◌, subst}
 use Rattle.run_types.specs.Types.{AllAlways, Always, At, Binds, ConsT, Covers, Ctx, Has, HasAll, HasFall, HasFound, HasFuns, HasPat, HasPats, HasRules, HasTag, HasVal, Mono, NilT, Puts, Scheme, TArr, TData, TExn, TNam, Ty, Types, Tys, UseAt, World, const_ty, inst_all, join, monos, under_ty}
+use Rattle.run_types.proofs.Shapes.{whole_close}
 use Rattle.runs.proofs.Close.{binds_close, is_some, names_close}
 use Rattle.runs.proofs.Still.{still_close}
 use Rattle.runs.specs.Env.{Env, binds, close, close_all, close_funs, close_pat, close_pats, close_rules, close_tag, first, found_or, hide, kept, names, over, tag_or, through, var_or}
@@ -158,9 +159,10 @@ mutual
         subst (λ n. Has w (join n h.0 d) (close (hide (names fs) env) b) t) s (has_put Z w b (join (names fs) h.0 g) (join (names fs) h.0 d) (hide (names fs) env) t (under_bound w (names fs) h.0 g d env p) h.2),
       )
   has_put Z w (Node op es) g d env t p h = (h.0, all_put Z w es g d env h.0 p h.1, h.2)
-  has_put Z w (Case f a rs) g d env t p (hf, u, ha, inl h) = (fall_close w env f rs hf, u, has_put Z w a g d env u p ha, inl (rules_put Z w rs g d env (λ a1. a1 ≡ u) (λ a1. a1 ≡ u) (λ a1 q. q) t p h))
-  has_put Z w (Case f a rs) g d env t p (hf, u, ha, inr h) =
-      (fall_close w env f rs hf, u, has_put Z w a g d env u p ha, inr (still_close env a h.0, rules_put Z w rs g d env (λ a1. Has w g a a1) (λ a1. Has w d (close env a) a1) (λ a1 q. has_put Z w a g d env a1 p q) t p h.1))
+  has_put Z w (Case f a rs) g d env t p (inr h) = inr (h.0, whole_close w env h.0 rs h.1, has_put Z w a g d env h.0 p h.2, rules_put Z w rs g d env (λ a1. a1 ≡ h.0) (λ a1. a1 ≡ h.0) (λ a1 q. q) t p h.3)
+  has_put Z w (Case f a rs) g d env t p (inl (hf, u, ha, inl h)) = inl (fall_close w env f rs hf, u, has_put Z w a g d env u p ha, inl (rules_put Z w rs g d env (λ a1. a1 ≡ u) (λ a1. a1 ≡ u) (λ a1 q. q) t p h))
+  has_put Z w (Case f a rs) g d env t p (inl (hf, u, ha, inr h)) =
+      inl (fall_close w env f rs hf, u, has_put Z w a g d env u p ha, inr (still_close env a h.0, rules_put Z w rs g d env (λ a1. Has w g a a1) (λ a1. Has w d (close env a) a1) (λ a1 q. has_put Z w a g d env a1 p q) t p h.1))
   has_put Z w (NewExn x b) g d env t p h =
       let c : Ctx = λ y. Some (Mono (TNam h.0)) in
       (h.0, has_put Z w b (join (same x) c g) (join (same x) c d) (hide (same x) env) t (under_bound w (same x) c g d env p) h.1)

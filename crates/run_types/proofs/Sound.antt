@@ -1,6 +1,8 @@
 -- A typed tree, and a typed row of items, never comes where there is no rule.
 use Rattle.std.proofs.Common.{◌≡◌, ℕ, zero, suc, inl, inr, List, ◌++◌, Option, None, refl, sym, ◌∙◌, subst}
 use Rattle.run_types.proofs.Acts.{FallOk, GoOk, act_ok, bound_ok, exn_holds, exn_puts, exn_sub, exn_world, fall_ok, fn_has, group_ok, known_ok, made_ok, next_ok, no_env, ok_from, or_ok, pattern_takes, still_case, still_has, then_ok, vals_has}
+use Rattle.run_types.proofs.Shapes.{whole_up}
+use Rattle.run_types.proofs.Wholes.{whole_ok}
 use Rattle.run_types.proofs.Grown.{all_more, binds_more, fall_more, has_more, items_more, op_up, puts_more, rules_more, val_more}
 use Rattle.run_types.proofs.Scopes.{exn_scope, funs_scope, one_rule, reached_all, scope_more, struct_puts, took_ok, weaker}
 use Rattle.run_types.proofs.Taken.{GivesVal}
@@ -36,11 +38,15 @@ mutual
   ev_at Z go l gk (Node op es) w g env t s wl p h hm =
       then_ok (vals_has h.0) (val_has t) w (ev_all go env es s) (λ vs s1. perform go (act op vs s1) s1) (all_at Z go l gk es w g env h.0 s wl p h.1 hm)
       (λ k vs s1 u hv hm1. act_ok go l gk k op vs h.0 t s1 (u.givens ∙ wl) (op_up w k u op h.0 t h.2) hv hm1)
-  ev_at Z go l gk (Case f a rs) w g env t s wl p (hf, u, ha, inl h) hm =
+  ev_at Z go l gk (Case f a rs) w g env t s wl p (inr h) hm =
+      then_ok (val_has h.0) (val_has t) w (ev go env a s) (λ v s1. ev_rules go env rs (fallen f s1) v s1) (ev_at Z go l gk a w g env h.0 s wl p h.2 hm)
+      (λ k v s1 i hv hm1. whole_ok (val_has t) k go env h.0 rs (fallen f s1) v s1 (whole_up w k i h.0 rs h.1) hv (More s1)
+      (rules_at Z go l gk rs k g env (λ a1. a1 ≡ h.0) t (More s1) v s1 (i.givens ∙ wl) (puts_more w k i g no_ctx env p) (rules_more w k i rs g (λ a1. a1 ≡ h.0) (λ a1. a1 ≡ h.0) (λ a1 q. q) t h.3) (λ a1 q. subst (HasVal k v) (sym q) hv) hm1 (inr tt)))
+  ev_at Z go l gk (Case f a rs) w g env t s wl p (inl (hf, u, ha, inl h)) hm =
       then_ok (val_has u) (val_has t) w (ev go env a s) (λ v s1. ev_rules go env rs (fallen f s1) v s1) (ev_at Z go l gk a w g env u s wl p ha hm)
       (λ k v s1 i hv hm1. rules_at Z go l gk rs k g env (λ a1. a1 ≡ u) t (fallen f s1) v s1 (i.givens ∙ wl) (puts_more w k i g no_ctx env p) (rules_more w k i rs g (λ a1. a1 ≡ u) (λ a1. a1 ≡ u) (λ a1 q. q) t h) (λ a1 q. subst (HasVal k v) (sym q) hv) hm1
       (fall_ok (val_has t) k f rs s1 (fall_more w k i f rs hf) hm1))
-  ev_at Z go l gk (Case f a rs) w g env t s wl p (hf, u, ha, inr h) hm =
+  ev_at Z go l gk (Case f a rs) w g env t s wl p (inl (hf, u, ha, inr h)) hm =
       still_case (val_has t) w u (ev go env a s) (result (close env a)) s (λ v s1. ev_rules go env rs (fallen f s1) v s1) (still_ev go env a s h.0) (still_has w a g env u p h.0 ha)
       (λ v e. rules_at Z go l gk rs w g env (λ a1. Has w g a a1) t (fallen f s) v s wl p h.1 (λ a1 q. subst (GivesVal w a1) e (still_has w a g env a1 p h.0 q)) hm (fall_ok (val_has t) w f rs s hf hm))
   ev_at Z go l gk (NewExn x b) w g env t s wl p h hm =

@@ -1,8 +1,8 @@
 -- Where each text begins: bool and list, and the types of the predefined values.
-use Rattle.std.specs.Prelude.{ℕ, zero, suc, List, [], ◌∷◌, Option, Some, None, Bool, true, if◌then◌else◌}
+use Rattle.std.specs.Prelude.{◌≡◌, ◌⊎◌, ℕ, zero, suc, List, [], ◌∷◌, Option, Some, None, Bool, true, if◌then◌else◌}
 use Rattle.std.specs.Prelude.{codes}
 use Rattle.run_types.specs.TypedItems.{ScopeTy}
-use Rattle.run_types.specs.Types.{All, AnyTy, ConsT, Ctx, Given, Mono, NilT, Scheme, TArr, TChar, TExn, TInt, TRef, TString, TVar, Ty, Tys, World, bool_ty, join, list_ty, no_ctx, plain, start_world, unit_ty}
+use Rattle.run_types.specs.Types.{All, AnyTy, Bools, ConsT, Ctx, Given, Lists, Mono, NilT, Scheme, TArr, TChar, TExn, TInt, TRef, TString, TVar, Ty, Tys, World, bool_ty, join, list_ty, no_ctx, plain, start_world, unit_ty}
 use Rattle.runs.specs.Forms.{var}
 use Rattle.runs.specs.Names.{Name, Part, same, same_part}
 use Rattle.runs.specs.Primitives.{cons_part, false_part, nil_part, true_part}
@@ -16,6 +16,13 @@ with_basics more d b c = more d b c
 -- a world in which nothing was made yet
 abbrev pub basic_world : (ℕ → Bool → Part → Option Tys) → List Given → World
 basic_world more givens = start_world (with_basics more) givens
+
+-- bool and list have their constructors, and no others
+pub record Basic (w : World) : Type 0 where
+  pub bools : Bools w
+  pub lists : Lists w
+  pub only_bools : (c : Part) (args : Tys) → w.datas 0 true c ≡ Some args → (args ≡ NilT) × ((c ≡ true_part) ⊎ (c ≡ false_part))
+  pub only_lists : (c : Part) (args : Tys) → w.datas 1 true c ≡ Some args → ((c ≡ nil_part) × (args ≡ NilT)) ⊎ ((c ≡ cons_part) × (args ≡ ConsT (TVar 0) (ConsT (list_ty (TVar 0)) NilT)))
 
 -- a name and its scheme
 pub record SchemeRow : Type 0 where

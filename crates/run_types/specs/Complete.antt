@@ -1,20 +1,10 @@
 -- Rules that take each value of a type.
-use Rattle.std.specs.Prelude.{◌⊎◌, List, Option, Some, None}
+pub use Rattle.run_types.specs.Types.{TakesOne, Took}
+use Rattle.std.specs.Prelude.{List}
 use Rattle.run_types.specs.Safe.{Sub}
 use Rattle.run_types.specs.Types.{HasVal, HoldsAll, Ty, World}
 use Rattle.runs.specs.Env.{Env, close_rules}
-use Rattle.runs.specs.Patterns.{matched}
 use Rattle.runs.specs.Tree.{Exp, PAny, Rule, Rules, Stop, Val}
-
--- the pattern took the value
-abbrev pub Took : Option Env → Type 0
-Took None = ⊥
-Took (Some b) = Unit {0}
-
--- one of the rules takes the value
-abbrev pub TakesOne : List Val → Rules → Val → Type 0
-TakesOne m Stop v = ⊥
-TakesOne m (Rule p b rs) v = Took (matched m p v) ⊎ TakesOne m rs v
 
 -- in each larger world; this speaks of all values, so it cannot stand inside the typing of trees
 abbrev pub Complete : World → Env → Rules → Ty → Type 0

@@ -6,11 +6,13 @@ use Rattle.runs.specs.Primitives.{St, act}
 use Rattle.runs.specs.Meaning.{Res, Done, Raised, More, Wrong, perform, mean}
 use Rattle.run_types.specs.Types.{Ty, TArr, TExn, Tys, Given, World, IsGiven, HasVal, Holds}
 
--- k has what w has, and more
+-- k has what w has, and more cells and exceptions
 pub record Sub (w k : World) : Type 0 where
   pub cells : (l : ℕ) (t : Ty) → slice_get w.cells l ≡ Some t → slice_get k.cells l ≡ Some t
   pub exns : (l : ℕ) (t : Tys) → slice_get w.exns l ≡ Some t → slice_get k.exns l ≡ Some t
   pub datas : (d : ℕ) (b : Bool) (c : Part) (t : Tys) → w.datas d b c ≡ Some t → k.datas d b c ≡ Some t
+  -- and no constructor more
+  pub same : (d : ℕ) (b : Bool) (c : Part) (t : Tys) → k.datas d b c ≡ Some t → w.datas d b c ≡ Some t
   pub givens : k.givens ≡ w.givens
 
 -- a good end: the world has grown

@@ -3,6 +3,7 @@ use Rattle.std.specs.Prelude.{◌≡◌, ℕ, zero, suc, ◌⊎◌, List, [], �
 use Rattle.runs.specs.Env.{Env, binds, names}
 use Rattle.runs.specs.Names.{Name, Part, same, same_part}
 use Rattle.runs.specs.Ordered.{Still}
+use Rattle.runs.specs.Patterns.{matched}
 use Rattle.runs.specs.Primitives.{St, as_truth, body, cons_part, false_part, nil_part, true_part, unit}
 use Rattle.runs.specs.Tree.{Absent, Alias, Applied, Apply, Arith, Arithmetic, Assign, Broken, Build, Case, Char, CharCode, Clo, Compare, Con, Concat, Cons, Const, Datum, Deref, Divide, Drawn, End, Exception, Exn, Exp, Exps, Fail, Fall, Fn, Found, Fun, Functions, FunctorOf, Funs, Group, Identical, InMod, InStruct, Int, Is, Item, Items, LetMod, ListOf, Lit, Loc, Lsl, Lsr, Make, Modulo, Nam, Named, NewExn, Nil, NoFuns, NoVals, Node, Not, Op, Oper, Operator, PAny, PCell, PCon, PExn, PLayer, PLit, PMore, PNil, PTup, PVar, Pair, Pat, Pats, Prim, Primitive, PrintString, Raise, Raises, Rec, Ref, Rule, Rules, Stop, Str, StringOfInt, Struct, StructOf, Stuck, Tag, There, Try, Tup, Val, Vals, Value, Var}
 
@@ -250,6 +251,39 @@ abbrev pub Covers : Rules → Type 0
 Covers Stop = ⊥
 Covers (Rule p b rs) = Always p ⊎ Covers rs
 
+-- the pattern took the value
+abbrev pub Took : Option Env → Type 0
+Took None = ⊥
+Took (Some b) = Unit {0}
+
+-- one of the rules takes the value
+abbrev pub TakesOne : List Val → Rules → Val → Type 0
+TakesOne m Stop v = ⊥
+TakesOne m (Rule p b rs) v = Took (matched m p v) ⊎ TakesOne m rs v
+
+abbrev mutual
+  -- the value has the shape of the type: its constructors are those of the type, down to functions, cells and exceptions
+  pub Shaped : World → Val → Ty → Type 0
+  Shaped w (Datum n) t = t ≡ const_ty n
+  Shaped w (Tup vs) (TTup ts) = AllShaped w vs ts
+  Shaped w (Con k vs) (TData d b us) = (args : Tys) × (w.datas d b k ≡ Some args) × AllShaped w vs (inst_all us args)
+  Shaped w (Clo f rs) (TArr a r) = Unit {0}
+  Shaped w (Rec fs f) (TArr a r) = Unit {0}
+  Shaped w (Prim p vs) (TArr a r) = Unit {0}
+  Shaped w (Loc l) (TRef t) = Unit {0}
+  Shaped w (Nam k) (TNam args) = Unit {0}
+  Shaped w (Exn k vs) TExn = Unit {0}
+  Shaped w _ _ = ⊥
+
+  pub AllShaped : World → Vals → Tys → Type 0
+  AllShaped w NoVals NilT = Unit {0}
+  AllShaped w (Item v vs) (ConsT t ts) = Shaped w v t × AllShaped w vs ts
+  AllShaped w _ _ = ⊥
+
+-- the rules take each value that has the shape of the type
+abbrev pub Whole : World → Ty → Rules → Type 0
+Whole w u rs = (m : List Val) (v : Val) → Shaped w v u → TakesOne m rs v
+
 abbrev mutual
   -- the pattern takes values of type u, and c has the types of its variables
   pub HasPat : World → Ctx → Pat → Ty → Types → Type 0
@@ -321,12 +355,13 @@ abbrev mutual
       × ((f : Name) (u : Ty) → names fs f ≡ true → UseAt (h f) u → (c : Types) × (c f ≡ Some u) × HasFuns w (join (names fs) (monos c) g) fs c)
       × Has w (join (names fs) h g) b t
   Has w g (Node op es) t = (ts : Tys) × HasAll w g es ts × OpTy w op ts t
-  -- the value has one type; or it is still, and has each type that its tree has
+  -- the value has one type; or it is still, and has each type that its tree has; or the rules take each value of its shape
   Has w g (Case f a rs) t =
-      HasFall w f rs
+      (HasFall w f rs
       × (u : Ty)
       × Has w g a u
-      × (HasRules w g (λ a1. a1 ≡ u) rs t ⊎ (Still a × HasRules w g (λ a1. Has w g a a1) rs t))
+      × (HasRules w g (λ a1. a1 ≡ u) rs t ⊎ (Still a × HasRules w g (λ a1. Has w g a a1) rs t)))
+      ⊎ ((u : Ty) × Whole w u rs × Has w g a u × HasRules w g (λ a1. a1 ≡ u) rs t)
   Has w g (NewExn x b) t = (args : Tys) × Has w (join (same x) (λ y. Some (Mono (TNam args))) g) b t
   Has w g (Try a rs) t = Has w g a t × HasRules w g (λ u. u ≡ TExn) rs t
   -- the structure reads the schemes k: of the values that were put into it, and else of what stands round it

@@ -1,11 +1,11 @@
 ghost use Rattle.std.specs.Prelude.{◌≡◌, ℕ, suc, [], ◌∷◌, Bool, true, List, length, Option, Some};
 ghost use Rattle.run_types.specs.Safe.{GivensOk, Ok, val_has};
-ghost use Rattle.run_types.specs.Types.{Bools, Ctx, Given, Has, HasVal, Holds, Kind, Names, Puts, Ty, Tys, World, equal, no_ctx, real};
-ghost use Rattle.run_types.specs.Basic.{basic_world, text_types};
+ghost use Rattle.run_types.specs.Types.{Bools, Ctx, Given, Has, HasVal, Holds, Kind, Names, Puts, Ty, Tys, World, bool_ty, equal, no_ctx, real};
+ghost use Rattle.run_types.specs.Basic.{Basic, basic_world, text_types};
 ghost use Rattle.run_types.specs.Quotient.{quotient_given};
 ghost use Rattle.run_types.specs.TypedTexts.{after_hello, after_twice, bad_cell, twice};
 ghost use Rattle.runs.specs.Examples.{hello};
-ghost use Rattle.runs.specs.Forms.{text_scope};
+ghost use Rattle.runs.specs.Forms.{choice, text_scope};
 ghost use Rattle.runs.specs.Names.{Part};
 ghost use Rattle.run_types.specs.Complete.{Complete, and_else};
 ghost use Rattle.run_types.specs.Equality.{EqualNames, same_val};
@@ -68,6 +68,16 @@ pub fn start_holds()
 /// And the predefined values have their types.
 pub fn text_begins_typed()
     ensures { (w : World) → Bools w → scope_has text_types w text_scope }
+{}
+
+/// A condition is typed: its rules take both truth values, so nothing comes else.
+pub fn choice_is_typed()
+    ensures { (w : World) (g : Ctx) (a b c : Exp) (t : Ty) → Basic w → Has w g a bool_ty → Has w g b t → Has w g c t → Has w g (choice a b c) t }
+{}
+
+/// Where a text begins, bool and list have their constructors and no others.
+pub fn begins_basic()
+    ensures { (more : ℕ → Bool → Part → Option Tys) (givens : List Given) → Basic (basic_world more givens) }
 {}
 
 /// Where no function is given, nothing is owed for given functions.

@@ -9,7 +9,7 @@
 mod laws;
 
 pub use laws::{
-    cell_goes_wrong, dropped_rule, each_choice, ends_well, equality_answers, hello_is_typed,
-    identity_is_typed, last_rule, none_given, quotient_is_ok, row_ends_well, start_holds,
-    text_begins_typed, typed_row, written_row,
+    begins_basic, cell_goes_wrong, choice_is_typed, dropped_rule, each_choice, ends_well,
+    equality_answers, hello_is_typed, identity_is_typed, last_rule, none_given, quotient_is_ok,
+    row_ends_well, start_holds, text_begins_typed, typed_row, written_row,
 };
