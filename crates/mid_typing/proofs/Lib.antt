@@ -1,0 +1,12 @@
+pub mod Lookups
+pub mod Weaken
+pub mod Grows
+pub mod Generalised
+pub mod TypedTypes
+pub mod Small
+pub mod SmallData
+pub mod SmallMore
+pub mod Copies
+pub mod Untyped
+pub mod RefusedBinds
+pub mod Units

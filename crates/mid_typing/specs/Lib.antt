@@ -1,0 +1,14 @@
+pub mod Tree
+pub mod View
+pub mod Types
+pub mod Env
+pub mod Basis
+pub mod Dicts
+pub mod Patterns
+pub mod NonExpansive
+pub mod Profile
+pub mod Data
+pub mod MidTypes
+pub mod Units
+pub mod More
+pub mod Examples
