@@ -1,0 +1,10 @@
+pub mod Exps
+pub mod ReadExps
+pub mod Binds
+pub mod ReadBinds
+pub mod Clauses
+pub mod ReadClauses
+pub mod Decs
+pub mod ReadDecs
+pub mod Levels
+pub mod ReadLevels
