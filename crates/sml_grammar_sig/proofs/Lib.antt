@@ -1,0 +1,11 @@
+pub mod Descs
+pub mod Chain
+pub mod Sigs
+pub mod Structures
+pub mod Lean
+pub mod Tables
+pub mod Specs
+pub mod Closing
+pub mod Rows
+pub mod Levels
+pub mod Examples

@@ -1,0 +1,4 @@
+pub mod Descs
+pub mod ReadDescs
+pub mod Sigs
+pub mod ReadSigs
