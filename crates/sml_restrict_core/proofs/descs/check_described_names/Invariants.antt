@@ -1,0 +1,11 @@
+use Rattle.std.proofs.Common.{◌≡◌, length, map}
+use Rattle.sml_restrict_core.specs.Breaches.{after, joined}
+use Rattle.sml_restrict_core.specs.Bindings.{dat_desc_cons}
+use Rattle.sml_restrict_core.specs.Repeats.{twice}
+use Rattle.sml_restrict_core.proofs.descs.check_described_names.Given as goal
+
+abbrev pub invariant-loop-one : goal.invariant-loop-one
+invariant-loop-one l = after l.found (twice (joined (map dat_desc_cons l.rest))) ≡ after l.initial.found (twice (joined (map dat_desc_cons l.binds)))
+
+abbrev pub decreases-loop-one : goal.decreases-loop-one
+decreases-loop-one l = length l.rest

@@ -1,0 +1,5 @@
+pub mod Bindings
+pub mod Breaches
+pub mod Patterns
+pub mod Repeats
+pub mod Types
