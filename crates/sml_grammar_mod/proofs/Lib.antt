@@ -1,0 +1,4 @@
+pub mod Examples
+pub mod Derivations
+pub mod Ascriptions
+pub mod Inner
