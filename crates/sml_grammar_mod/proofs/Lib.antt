@@ -1,4 +1,0 @@
-pub mod Examples
-pub mod Derivations
-pub mod Ascriptions
-pub mod Inner

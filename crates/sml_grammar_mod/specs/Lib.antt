@@ -1,4 +1,0 @@
-pub mod Strs
-pub mod ReadStrs
-pub mod Programs
-pub mod ReadPrograms

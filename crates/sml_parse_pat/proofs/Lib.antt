@@ -1,6 +1,0 @@
-pub mod Ready
-pub mod Steps
-pub mod RowSteps
-pub mod Rooms
-pub mod Parts
-pub mod Whole
