@@ -2,7 +2,7 @@
 use Rattle.std.proofs.Common.{◌≡◌, ◌⊎◌, inl, inr, ℕ, List, [], ◌∷◌, Some}
 use Rattle.sml_static.specs.declared.ty.Ty.{Ty}
 use Rattle.sml_static.specs.declared.ty.VarKind.{VarKind}
-use Rattle.mid_typing.specs.Tree.{Dicts, Exp, Const, Local, Home, Con, Prim, Tuple, Apply, Fun, Raise, Handle, Let, Binds, NoBinds, MoreBinds, Dec, Vals, Funs, Datas, Alias, NewExn, SameExn}
+use Rattle.mid_ast.specs.Tree.{Dicts, Exp, Const, Local, Home, Con, Prim, Tuple, Apply, Fun, Raise, Handle, Let, Binds, NoBinds, MoreBinds, Dec, Vals, Funs, Datas, Alias, NewExn, SameExn}
 use Rattle.mid_typing.specs.Env.{Env, Variable, General}
 use Rattle.mid_typing.specs.Dicts.{Setting}
 use Rattle.mid_typing.specs.NonExpansive.{NonExpansive}

@@ -1,7 +1,7 @@
 -- Rows of items and of units one after another: type names and scopes only grow.
 use Rattle.std.proofs.Common.{◌≡◌, ◌++◌, ℕ, ◌≤◌, List, [], ◌∷◌, Option, Some, None, Bool, true, false, if◌then◌else◌, refl, sym, ap, ◌∙◌, subst, arith}
 use Rattle.sml_static.specs.declared.ty.VarKind.{VarKind}
-use Rattle.mid_typing.specs.Tree.{Part, Dec, Vals, Funs, Datas, Alias, NewExn, SameExn, Decs, NoDecs, MoreDecs, Item, Core, Module, NoItem, Items, NoItems, MoreItems, Mod, Body, AtPath, NoMod}
+use Rattle.mid_ast.specs.Tree.{Part, Dec, Vals, Funs, Datas, Alias, NewExn, SameExn, Decs, NoDecs, MoreDecs, Item, Core, Module, NoItem, Items, NoItems, MoreItems, Mod, Body, AtPath, NoMod}
 use Rattle.mid_typing.specs.Env.{Env, Empty, AddLocal, AddVid, AddType, AddMod, is_same, local_at, mod_at, over, type_at, vid_at}
 use Rattle.mid_typing.specs.Dicts.{Setting}
 use Rattle.mid_typing.specs.MidTypes.{DecBinds, DecsBind, ItemBinds, ItemsBind, ModBinds}

@@ -1,7 +1,7 @@
 -- Look-ups where more is bound.
 use Rattle.std.proofs.Common.{◌≡◌, ℕ, nat_eq, List, [], ◌∷◌, Option, Some, None, Bool, true, false, if◌then◌else◌, refl, sym, ap, subst}
 use Rattle.sml_static.specs.declared.ty.VarKind.{VarKind}
-use Rattle.mid_typing.specs.Tree.{Name, Part}
+use Rattle.mid_ast.specs.Tree.{Name, Part}
 use Rattle.mid_typing.specs.Env.{Entry, Env, TyEntry, Vid, Empty, AddLocal, AddVid, AddType, AddMod, General, binder_at, binder_path, inside_or, into, is_same, local_at, mod_at, over, type_at, vid_at}
 use Rattle.mid_typing.specs.MidTypes.{Member, within}
 use Rattle.mid_typing.specs.More.{More}

@@ -12,7 +12,7 @@ use Rattle.sml_static.specs.declared.ty.VarKind.{VarKind}
 use Rattle.sml_static.specs.declared.ty.VarKind.TheVariants as kind
 use Rattle.sml_static.specs.Shapes.{AnyShape, MadeShape, Of, datatype_of}
 use Rattle.sml_static.specs.Types.{applied}
-use Rattle.mid_typing.specs.Tree.{Pat, PVar, NoPats, MorePats, NoBinds, MoreBinds, NoDicts, Fun}
+use Rattle.mid_ast.specs.Tree.{Pat, PVar, NoPats, MorePats, NoBinds, MoreBinds, NoDicts, Fun}
 use Rattle.mid_typing.specs.Types.{arrow, bool, equal_args, int, is_arrow, is_equality_general, is_general, pair}
 use Rattle.mid_typing.specs.Env.{Env, Entry, Within, local_at}
 use Rattle.mid_typing.specs.Dicts.{Setting}

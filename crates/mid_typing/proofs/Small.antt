@@ -9,7 +9,7 @@ use Rattle.sml_static.specs.declared.ty.VarKind.TheVariants as kind
 use Rattle.sml_static.specs.WellFormed.{HasFixedNames}
 use Rattle.sml_static.specs.Exhaustive.{IsExhaustive, wild, no_columns}
 use Rattle.sml_static.specs.Shapes.{Wild}
-use Rattle.mid_typing.specs.Tree.{Part, Item, PVar}
+use Rattle.mid_ast.specs.Tree.{Part, Item, PVar}
 use Rattle.mid_typing.specs.Types.{arrow, int, pair, string}
 use Rattle.mid_typing.specs.Env.{Env, Empty, AddLocal, General, named, over, without_locals}
 use Rattle.mid_typing.specs.Basis.{basis}

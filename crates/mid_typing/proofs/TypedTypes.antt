@@ -12,7 +12,7 @@ use Rattle.sml_static.specs.declared.ty.Ty.TheFolds
 use Rattle.sml_static.specs.declared.ty.VarKind.{VarKind}
 use Rattle.sml_static.specs.Labels.{is_increasing, labels}
 use Rattle.sml_static.specs.WellFormed.{HasFixedNames, Numbering, is_well_formed}
-use Rattle.mid_typing.specs.Tree.{Exp, Const, Local, Home, Con, Prim, Tuple, Apply, Fun, Raise, Handle, Let, Exps, NoExps, MoreExps}
+use Rattle.mid_ast.specs.Tree.{Exp, Const, Local, Home, Con, Prim, Tuple, Apply, Fun, Raise, Handle, Let, Exps, NoExps, MoreExps}
 use Rattle.mid_typing.specs.Types.{IsTypeAt, arrow, char, int, is_known, is_type_at, literal_type, string, word}
 use Rattle.mid_typing.specs.Env.{Env}
 use Rattle.mid_typing.specs.Dicts.{Setting}

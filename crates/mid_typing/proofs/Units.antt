@@ -5,7 +5,7 @@ use Rattle.sml_static.specs.declared.ty.Label.{Label}
 use Rattle.sml_static.specs.declared.ty.Label.TheVariants as label
 use Rattle.sml_static.specs.declared.ty.Ty.{Ty}
 use Rattle.sml_static.specs.declared.ty.Ty.TheFolds
-use Rattle.mid_typing.specs.Tree.{Name, Part, NoDicts, MoreDicts}
+use Rattle.mid_ast.specs.Tree.{Name, Part, NoDicts, MoreDicts}
 use Rattle.mid_typing.specs.Types.{bool, int, list, need_dicts, needs_no_dict, pair, string, type_name}
 use Rattle.mid_typing.specs.Env.{Env, Vid, Variable, Empty, AddLocal, AddMod, General, vid_at, named, over, without_locals}
 use Rattle.mid_typing.specs.Basis.{basis, constructor_scheme, one_type, placed_basis}

@@ -15,7 +15,7 @@ use Rattle.sml_static.specs.Schemes.{MayStandForAll}
 use Rattle.sml_static.specs.WellFormed.{Numbering, is_well_formed}
 use Rattle.sml_static.specs.Types.{applied}
 use Rattle.sml_static.specs.Shapes.{datatype_of}
-use Rattle.mid_typing.specs.Tree.{NoDicts, Exp, Local, Apply, NoExps, MoreExps, Dict, Base, At, Given, Cells, Parts}
+use Rattle.mid_ast.specs.Tree.{NoDicts, Exp, Local, Apply, NoExps, MoreExps, Dict, Base, At, Given, Cells, Parts}
 use Rattle.mid_typing.specs.Types.{IsTypeAt, arrow, bool, int, is_arrow, is_known, is_type_at, kind_at, list, no_free, pair, ref, string, variables}
 use Rattle.mid_typing.specs.Env.{Env, General}
 use Rattle.mid_typing.specs.Basis.{basis}

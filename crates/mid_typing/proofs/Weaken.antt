@@ -6,7 +6,7 @@ use Rattle.sml_static.specs.declared.ty.Scheme.{Scheme}
 use Rattle.sml_static.specs.declared.ty.Ty.{Ty}
 use Rattle.sml_static.specs.declared.ty.VarKind.{VarKind}
 use Rattle.sml_static.specs.WellFormed.{Numbering}
-use Rattle.mid_typing.specs.Tree.{Part, Name, Dict, Base, At, Given, Cells, Parts, Dicts, NoDicts, MoreDicts, Pat, Any, PLit, PVar, PCon, PConOf, PTuple, PLayer, PCell, PFlex, Pats, NoPats, MorePats, Exp, Const, Local, Home, Con, Prim, Tuple, Apply, Fun, Raise, Handle, Let, Exps, NoExps, MoreExps, Rules, NoRules, MoreRules, Dec, Vals, Funs, Datas, Alias, NewExn, SameExn, Decs, NoDecs, MoreDecs, Binds, NoBinds, MoreBinds, Item, Core, Module, NoItem, Items, NoItems, MoreItems, Mod, Body, AtPath, NoMod}
+use Rattle.mid_ast.specs.Tree.{Part, Name, Dict, Base, At, Given, Cells, Parts, Dicts, NoDicts, MoreDicts, Pat, Any, PLit, PVar, PCon, PConOf, PTuple, PLayer, PCell, PFlex, Pats, NoPats, MorePats, Exp, Const, Local, Home, Con, Prim, Tuple, Apply, Fun, Raise, Handle, Let, Exps, NoExps, MoreExps, Rules, NoRules, MoreRules, Dec, Vals, Funs, Datas, Alias, NewExn, SameExn, Decs, NoDecs, MoreDecs, Binds, NoBinds, MoreBinds, Item, Core, Module, NoItem, Items, NoItems, MoreItems, Mod, Body, AtPath, NoMod}
 use Rattle.mid_typing.specs.Env.{Entry, General, Within, Vid, Variable, Constructor, Exception, Env, binder_at, local_at, over, vid_at}
 use Rattle.mid_typing.specs.Basis.{prim_scheme}
 use Rattle.mid_typing.specs.Dicts.{Setting, Stage, Elaborated, Explicit, Placed, DictFits, DictsFit, IsEqualityAt, IsEqualityBinder, PrimDicts}

@@ -8,7 +8,7 @@ use Rattle.sml_static.specs.declared.ty.TyFun.{TyFun}
 use Rattle.sml_static.specs.declared.ty.TyName.{TyName}
 use Rattle.sml_static.specs.declared.ty.VarKind.TheVariants as kind
 use Rattle.sml_static.specs.WellFormed.{alone}
-use Rattle.mid_typing.specs.Tree.{Name, Part}
+use Rattle.mid_ast.specs.Tree.{Name, Part}
 use Rattle.mid_typing.specs.Types.{type_name, int, word, char, string, bool, exn, list, ref, option, order, arrow, pair, tuple, unit}
 use Rattle.mid_typing.specs.Env.{Env, Empty, AddVid, AddType, AddMod, Variable, Constructor, Exception}
 use Rattle.mid_typing.specs.Dicts.{equality_scheme}

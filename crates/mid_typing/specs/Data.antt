@@ -5,7 +5,7 @@ use Rattle.sml_static.specs.declared.mid.MidData.{MidData}
 use Rattle.sml_static.specs.declared.ty.Ty.{Ty}
 use Rattle.sml_static.specs.Equality.{data_admits}
 use Rattle.sml_static.specs.WellFormed.{Numbering, alone, are_distinct, is_numbered}
-use Rattle.mid_typing.specs.Tree.{Name, Part}
+use Rattle.mid_ast.specs.Tree.{Name, Part}
 use Rattle.mid_typing.specs.Types.{is_type_at}
 use Rattle.mid_typing.specs.Env.{Env, TyEntry, type_at}
 use Rattle.mid_typing.specs.Basis.{put_data}

@@ -10,7 +10,7 @@ use Rattle.sml_static.specs.declared.ty.VarKind.{VarKind}
 use Rattle.sml_static.specs.declared.ty.VarKind.TheVariants as kind
 use Rattle.sml_static.specs.Equality.{ref_number}
 use Rattle.sml_static.specs.WellFormed.{Numbering}
-use Rattle.mid_typing.specs.Tree.{Name, Dict, Base, At, Given, Cells, Parts, Dicts, NoDicts, MoreDicts}
+use Rattle.mid_ast.specs.Tree.{Name, Dict, Base, At, Given, Cells, Parts, Dicts, NoDicts, MoreDicts}
 use Rattle.mid_typing.specs.Types.{arrow, bool, equal_place, need_dicts, variables}
 use Rattle.mid_typing.specs.Env.{Env, Entry, General, Within, Variable, binder_at, vid_at}
 

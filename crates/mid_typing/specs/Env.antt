@@ -6,7 +6,7 @@ use Rattle.sml_static.specs.declared.ty.Scheme.{Scheme}
 use Rattle.sml_static.specs.declared.ty.Ty.{Ty}
 use Rattle.sml_static.specs.declared.ty.TyFun.{TyFun}
 use Rattle.sml_static.specs.declared.ty.VarKind.{VarKind}
-use Rattle.mid_typing.specs.Tree.{Name, Part}
+use Rattle.mid_ast.specs.Tree.{Name, Part}
 
 -- what a binder has
 pub data Entry : Type 0 where

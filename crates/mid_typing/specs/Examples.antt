@@ -8,7 +8,7 @@ use Rattle.sml_static.specs.declared.ty.Ty.TheVariants as ty
 use Rattle.sml_static.specs.declared.ty.VarKind.{VarKind}
 use Rattle.sml_static.specs.declared.ty.VarKind.TheVariants as kind
 use Rattle.sml_static.specs.WellFormed.{Numbering}
-use Rattle.mid_typing.specs.Tree.{Part, Name, Dict, At, Base, Given, Parts, NoDicts, MoreDicts, Pat, Any, PVar, PCon, PConOf, PTuple, NoPats, MorePats, Exp, Const, Local, Home, Con, Prim, Tuple, Apply, Fun, Raise, Handle, Let, NoExps, MoreExps, Rules, NoRules, MoreRules, Vals, Funs, Datas, NewExn, NoDecs, MoreDecs, NoBinds, MoreBinds, Item, Core, Module, Items, NoItems, MoreItems, Body, AtPath}
+use Rattle.mid_ast.specs.Tree.{Part, Name, Dict, At, Base, Given, Parts, NoDicts, MoreDicts, Pat, Any, PVar, PCon, PConOf, PTuple, NoPats, MorePats, Exp, Const, Local, Home, Con, Prim, Tuple, Apply, Fun, Raise, Handle, Let, NoExps, MoreExps, Rules, NoRules, MoreRules, Vals, Funs, Datas, NewExn, NoDecs, MoreDecs, NoBinds, MoreBinds, Item, Core, Module, Items, NoItems, MoreItems, Body, AtPath}
 use Rattle.mid_typing.specs.Types.{arrow, bool, exn, int, list, option, pair, ref, string, type_name, unit}
 use Rattle.mid_typing.specs.Dicts.{Setting, Stage, Elaborated}
 

@@ -1,5 +1,3 @@
-pub mod Tree
-pub mod View
 pub mod Types
 pub mod Env
 pub mod Basis

@@ -14,7 +14,7 @@ use Rattle.sml_static.specs.Labels.{labels, is_increasing}
 use Rattle.sml_static.specs.Schemes.{IsInstance, MayStandForAll}
 use Rattle.sml_static.specs.Types.{applied}
 use Rattle.sml_static.specs.WellFormed.{Numbering, are_distinct, is_numbered}
-use Rattle.mid_typing.specs.Tree.{Part, Dicts, PVar, Exp, Const, Local, Home, Con, Prim, Tuple, Apply, Fun, Raise, Handle, Let, Exps, NoExps, MoreExps, Rules, NoRules, MoreRules, Dec, Vals, Funs, Datas, Alias, NewExn, SameExn, Decs, NoDecs, MoreDecs, Binds, NoBinds, MoreBinds, Item, Core, Module, NoItem, Items, NoItems, MoreItems, Mod, Body, AtPath, NoMod}
+use Rattle.mid_ast.specs.Tree.{Part, Dicts, PVar, Exp, Const, Local, Home, Con, Prim, Tuple, Apply, Fun, Raise, Handle, Let, Exps, NoExps, MoreExps, Rules, NoRules, MoreRules, Dec, Vals, Funs, Datas, Alias, NewExn, SameExn, Decs, NoDecs, MoreDecs, Binds, NoBinds, MoreBinds, Item, Core, Module, NoItem, Items, NoItems, MoreItems, Mod, Body, AtPath, NoMod}
 use Rattle.mid_typing.specs.Types.{IsTypeAt, is_type_at, arrow, equal_args, exn, kind_at, literal_type, no_free, variables}
 use Rattle.mid_typing.specs.Env.{is_equality_name, Env, Empty, AddLocal, AddVid, AddType, AddMod, Entry, General, Within, Vid, Variable, Constructor, Exception, local_at, mod_at, named, names_in, over, vid_at}
 use Rattle.mid_typing.specs.Basis.{exception_scheme, prim_scheme}

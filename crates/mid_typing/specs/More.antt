@@ -1,6 +1,6 @@
 -- Environments with more bound, and rows of items one after another.
 use Rattle.std.specs.Prelude.{◌≡◌, ℕ, [], Some}
-use Rattle.mid_typing.specs.Tree.{Name, Items, NoItems, MoreItems, Binds, NoBinds, MoreBinds, Dec, Vals, Funs, Datas, Alias, NewExn, SameExn}
+use Rattle.mid_ast.specs.Tree.{Name, Items, NoItems, MoreItems, Binds, NoBinds, MoreBinds, Dec, Vals, Funs, Datas, Alias, NewExn, SameExn}
 use Rattle.mid_typing.specs.NonExpansive.{NonExpansive}
 use Rattle.mid_typing.specs.Env.{Entry, Env, TyEntry, Vid, binder_at, local_at, mod_at, type_at, vid_at}
 

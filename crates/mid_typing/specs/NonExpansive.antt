@@ -3,7 +3,7 @@
 use Rattle.std.specs.Prelude.{◌==◌, not, IsTrue}
 use Rattle.sml_static.specs.Equality.{ref_number}
 use Rattle.sml_static.specs.Shapes.{datatype_of}
-use Rattle.mid_typing.specs.Tree.{Exp, Const, Local, Home, Con, Prim, Tuple, Apply, Fun, Raise, Handle, Let, Exps, NoExps, MoreExps}
+use Rattle.mid_ast.specs.Tree.{Exp, Const, Local, Home, Con, Prim, Tuple, Apply, Fun, Raise, Handle, Let, Exps, NoExps, MoreExps}
 
 -- a constructor other than ref
 abbrev pub IsMaker : Exp → Type 0

@@ -8,7 +8,7 @@ use Rattle.sml_static.specs.declared.ty.Ty.TheVariants as ty
 use Rattle.sml_static.specs.declared.ty.VarKind.{VarKind}
 use Rattle.sml_static.specs.Labels.{labels, is_increasing}
 use Rattle.sml_static.specs.Schemes.{IsInstance}
-use Rattle.mid_typing.specs.Tree.{Part, Pat, Any, PLit, PVar, PCon, PConOf, PTuple, PLayer, PCell, PFlex, Pats, NoPats, MorePats}
+use Rattle.mid_ast.specs.Tree.{Part, Pat, Any, PLit, PVar, PCon, PConOf, PTuple, PLayer, PCell, PFlex, Pats, NoPats, MorePats}
 use Rattle.mid_typing.specs.Types.{IsTypeAt, arrow, kind_at, literal_type, no_free, ref}
 use Rattle.mid_typing.specs.Env.{Env, General, AddLocal, Vid, Variable, Constructor, Exception, vid_at}
 use Rattle.mid_typing.specs.Dicts.{Setting}

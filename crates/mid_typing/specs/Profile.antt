@@ -7,7 +7,7 @@ use Rattle.sml_static.specs.declared.ty.VarKind.{VarKind}
 use Rattle.sml_static.specs.Shapes.{Pattern, Wild, pattern_step}
 use Rattle.sml_static.specs.Exhaustive.{IsExhaustive, Splits}
 use Rattle.sml_static.specs.Types.{applied}
-use Rattle.mid_typing.specs.Tree.{Dicts, NoDicts, MoreDicts, Pat, Any, PLit, PVar, PCon, PConOf, PTuple, PLayer, PCell, PFlex, Pats, NoPats, MorePats, Exp, Const, Local, Home, Con, Prim, Tuple, Apply, Fun, Raise, Handle, Let, Exps, NoExps, MoreExps, Rules, NoRules, MoreRules, Dec, Vals, Funs, Datas, Alias, NewExn, SameExn, Decs, NoDecs, MoreDecs, Binds, NoBinds, MoreBinds}
+use Rattle.mid_ast.specs.Tree.{Dicts, NoDicts, MoreDicts, Pat, Any, PLit, PVar, PCon, PConOf, PTuple, PLayer, PCell, PFlex, Pats, NoPats, MorePats, Exp, Const, Local, Home, Con, Prim, Tuple, Apply, Fun, Raise, Handle, Let, Exps, NoExps, MoreExps, Rules, NoRules, MoreRules, Dec, Vals, Funs, Datas, Alias, NewExn, SameExn, Decs, NoDecs, MoreDecs, Binds, NoBinds, MoreBinds}
 use Rattle.mid_typing.specs.Types.{is_arrow, is_equality_general, is_general, variables}
 use Rattle.mid_typing.specs.Env.{Env, Entry, General, Within, Vid, Variable, Constructor, Exception, local_at, vid_at}
 use Rattle.mid_typing.specs.Patterns.{Binder}

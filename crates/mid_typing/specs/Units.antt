@@ -4,8 +4,8 @@ use Rattle.std.specs.List.{list_all}
 use Rattle.mid_ast.specs.declared.item.MidUnit.{MidUnit}
 use Rattle.sml_static.specs.declared.mid.MidData.{MidData}
 use Rattle.sml_static.specs.WellFormed.{HasFixedNames}
-use Rattle.mid_typing.specs.Tree.{Part, Pat, Any, PLit, PVar, PCon, PConOf, PTuple, PLayer, PCell, PFlex, Pats, NoPats, MorePats, Exp, Const, Local, Home, Con, Prim, Tuple, Apply, Fun, Raise, Handle, Let, Exps, NoExps, MoreExps, Rules, NoRules, MoreRules, Dec, Vals, Funs, Datas, Alias, NewExn, SameExn, Decs, NoDecs, MoreDecs, Binds, NoBinds, MoreBinds, Item, Core, Module, NoItem, Items, NoItems, MoreItems, Mod, Body, AtPath, NoMod}
-use Rattle.mid_typing.specs.View.{plain_items}
+use Rattle.mid_ast.specs.Tree.{Part, Pat, Any, PLit, PVar, PCon, PConOf, PTuple, PLayer, PCell, PFlex, Pats, NoPats, MorePats, Exp, Const, Local, Home, Con, Prim, Tuple, Apply, Fun, Raise, Handle, Let, Exps, NoExps, MoreExps, Rules, NoRules, MoreRules, Dec, Vals, Funs, Datas, Alias, NewExn, SameExn, Decs, NoDecs, MoreDecs, Binds, NoBinds, MoreBinds, Item, Core, Module, NoItem, Items, NoItems, MoreItems, Mod, Body, AtPath, NoMod}
+use Rattle.mid_ast.specs.View.{plain_items}
 use Rattle.mid_typing.specs.Types.{first_name}
 use Rattle.mid_typing.specs.Env.{Env, Empty, AddMod, over, without_locals}
 use Rattle.mid_typing.specs.Basis.{basis, placed_basis}

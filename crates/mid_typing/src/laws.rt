@@ -4,7 +4,7 @@ ghost use Rattle.mid_typing.specs.Dicts.{Setting};
 ghost use Rattle.mid_typing.specs.Env.{Env, General, Variable, local_at, mod_at, over, type_at, vid_at};
 ghost use Rattle.mid_typing.specs.MidTypes.{DecBinds, ExpHas, HomeOf, ItemsBind, UseOf};
 ghost use Rattle.mid_typing.specs.More.{EachGeneralIsStill, More, after};
-ghost use Rattle.mid_typing.specs.Tree.{Dec, Dicts, Exp, Items, Part};
+ghost use Rattle.mid_ast.specs.Tree.{Dec, Dicts, Exp, Items, Part};
 ghost use Rattle.mid_typing.specs.Types.{IsTypeAt};
 ghost use Rattle.mid_typing.specs.Units.{MidTypes, UnitsBind};
 ghost use Rattle.sml_static.specs.declared.ty.Ty.{Ty};

@@ -4,7 +4,7 @@ ghost use Rattle.mid_typing.specs.Dicts.{DictFits, Setting, Stage};
 ghost use Rattle.mid_typing.specs.Env.{Env};
 ghost use Rattle.mid_typing.specs.Examples.{alone, general_cell, leaving, other_copy, recursive, refutable, split_equality, twice_parameter, used_equality, wrong_true};
 ghost use Rattle.mid_typing.specs.MidTypes.{ExpHas, ItemBinds};
-ghost use Rattle.mid_typing.specs.Tree.{Dict};
+ghost use Rattle.mid_ast.specs.Tree.{Dict};
 ghost use Rattle.mid_typing.specs.Types.{arrow};
 ghost use Rattle.mid_typing.specs.Units.{UnitsType};
 ghost use Rattle.sml_static.specs.declared.ty.Ty.{Ty};

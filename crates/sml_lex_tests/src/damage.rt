@@ -1,5 +1,5 @@
+use crate::sources::damaged;
 use sml_lex::lex;
-use std::alloc::Global;
 use std::process::Abort;
 use std::test::Fail;
 use tl_text::{Fault, code_number};
@@ -47,20 +47,12 @@ fn prefixes(rt: HostRuntime) -> Result<(), Fail> {
     Ok(())
 }
 
-fn damaged(alloc: Global, at: usize, byte: u8) -> Result<Vec<u8>, Fail> {
-    let mut source = Vec::from_slice(alloc, SOURCE)?;
-    if at < source.len() {
-        source[at] = byte;
-    }
-    Ok(source)
-}
-
 /// A source with one byte changed that is answered past its end, or not at all.
 #[test]
 fn damages(rt: HostRuntime) -> Result<(), Fail> {
     for at in 0..SOURCE.len() {
         for byte in 0..=u8::MAX {
-            let source = damaged(rt.alloc(), at, byte)?;
+            let source = damaged(rt.alloc(), SOURCE, at, byte)?;
             check(&rt, source.as_slice());
         }
     }

@@ -1,5 +1,5 @@
 use crate::shown::shown;
-use std::alloc::Global;
+use crate::sources::around;
 use std::process::Abort;
 use std::test::Fail;
 
@@ -7,16 +7,6 @@ fn check(rt: &(impl Abort + AllocGlobal), source: &[u8], expected: &str) -> Resu
     let found = shown(rt.alloc(), source)?;
     assert_eq!(rt; found.as_str(), expected);
     Ok(())
-}
-
-/// Some bytes, a name of this length, and further bytes.
-fn around(alloc: Global, front: &[u8], length: usize, back: &[u8]) -> Result<Vec<u8>, Fail> {
-    let mut source = Vec::from_slice(alloc, front)?;
-    for _ in 0..length {
-        source.push(b'n')?;
-    }
-    source.extend_from_slice(back)?;
-    Ok(source)
 }
 
 /// A limit that is one off, a part that is not looked at, or a later code that comes first.

@@ -1,8 +1,8 @@
 //! Tests of the lexer: sources with their tokens, or with the code and the place where they are refused.
 //!
-//! Source: none. Result: none; this crate holds tests alone, so that the lexer is not proved twice.
+//! Source: none. Result: none but two makers of sources; the crate holds tests, so that the lexer is not proved twice.
 //! Rule: the Definition, chapter 2, and by hand from this project's ranges and escapes.
-//! Main contract: none.
+//! Main contract: `damaged`, `around`: the sources made are the ones that the tests mean.
 //! Knows nothing of: grammar.
 #![tactic(auto)]
 
@@ -16,3 +16,6 @@ mod escapes;
 mod lengths;
 #[cfg(test)]
 mod shown;
+mod sources;
+
+pub use sources::{around, damaged};

@@ -6,15 +6,16 @@ use Rattle.sml_static.specs.declared.ty.Ty.{Ty}
 use Rattle.sml_static.specs.declared.ty.VarKind.{VarKind}
 use Rattle.mid_ast.specs.declared.dict.Dict as declared_dict
 use Rattle.mid_ast.specs.declared.dict.Dict.TheOpen.{Dict-F}
-use Rattle.mid_ast.specs.declared.exp.MidBind.{MidBind-F}
+use Rattle.mid_ast.specs.declared.exp.MidBind.{MidBind, MidBind-F, fold-MidBind}
 use Rattle.mid_ast.specs.declared.exp.MidDec.{MidDec, fold-MidDec}
 use Rattle.mid_ast.specs.declared.exp.MidDec.TheOpen.{MidDec-F, MidExp-F}
 use Rattle.mid_ast.specs.declared.exp.MidExp.{MidExp, fold-MidExp}
-use Rattle.mid_ast.specs.declared.exp.MidRule.{MidRule-F}
+use Rattle.mid_ast.specs.declared.exp.MidRule.{MidRule, MidRule-F, fold-MidRule}
 use Rattle.mid_ast.specs.declared.item.MidItem.{MidItem, fold-MidItem}
 use Rattle.mid_ast.specs.declared.item.MidItem.TheOpen.{MidItem-F, MidMod-F}
-use Rattle.mid_typing.specs.Tree as tree
-use Rattle.mid_typing.specs.Tree.{Name, Dict, Dicts, NoDicts, MoreDicts, Pat, Pats, NoPats, MorePats, Exp, Exps, NoExps, MoreExps, Rules, NoRules, MoreRules, Dec, Decs, NoDecs, MoreDecs, Binds, NoBinds, MoreBinds, Item, Items, NoItems, MoreItems, Mod}
+use Rattle.mid_ast.specs.declared.item.MidMod.{MidMod, fold-MidMod}
+use Rattle.mid_ast.specs.Tree as tree
+use Rattle.mid_ast.specs.Tree.{Name, Dict, Dicts, NoDicts, MoreDicts, Pat, Pats, NoPats, MorePats, Exp, Exps, NoExps, MoreExps, Rules, NoRules, MoreRules, Dec, Decs, NoDecs, MoreDecs, Binds, NoBinds, MoreBinds, Item, Items, NoItems, MoreItems, Mod}
 
 -- ---- rows
 
@@ -119,6 +120,12 @@ plain_exp = fold-MidExp Dec Exp Binding (Pat × Exp) dec_step exp_step bind_step
 abbrev pub plain_dec : MidDec → Dec
 plain_dec = fold-MidDec Dec Exp Binding (Pat × Exp) dec_step exp_step bind_step rule_step
 
+abbrev pub plain_bind : MidBind → Binding
+plain_bind = fold-MidBind Dec Exp Binding (Pat × Exp) dec_step exp_step bind_step rule_step
+
+abbrev pub plain_rule : MidRule → Pat × Exp
+plain_rule = fold-MidRule Dec Exp Binding (Pat × Exp) dec_step exp_step bind_step rule_step
+
 -- ---- items
 
 abbrev pub item_step : MidItem-F Item Mod → Item
@@ -135,6 +142,9 @@ mod_step (MidMod-F.Applied f a e r) = tree.NoMod
 
 abbrev pub plain_item : MidItem → Item
 plain_item = fold-MidItem Item Mod item_step mod_step
+
+abbrev pub plain_mod : MidMod → Mod
+plain_mod = fold-MidMod Item Mod item_step mod_step
 
 abbrev pub plain_items : List MidItem → Items
 plain_items is = row_of_items (map plain_item is)
