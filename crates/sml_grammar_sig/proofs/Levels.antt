@@ -64,6 +64,14 @@ tower = record {
 pub sig_exact : (s : Known) (n : ℕ) → SigP s n
 sig_exact s n = sig_now (real_bind_exact s n) ((all_of All tower s n).1)
 
+-- the same without `where`
+pub head_exact : (s : Known) (n : ℕ) → HeadP s n
+head_exact s n = (all_of All tower s n).1
+
+-- specifications are read exactly, where an identifier behind `include` takes no room
+pub spec_exact : (s : Known) (n : ℕ) → SpecLeanP s n
+spec_exact s n = (all_of All tower s n).2
+
 -- rows of specifications in parentheses are read exactly
 pub enclosed_exact : (s : Known) (n : ℕ) → Phrase s n 0 EnclosedR enclosed_in always (λ x. highest height_of x.1) 0 0 (is OPEN_PAREN) 0
 enclosed_exact s n = sized_phrase (λ x. highest height_of x.1) (phrase (the_word OPEN_PAREN) (specs_now ((all_of All tower s n).2) CLOSE_PAREN refl refl)) (λ x. omega arith)

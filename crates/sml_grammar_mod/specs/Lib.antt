@@ -1,0 +1,4 @@
+pub mod Strs
+pub mod ReadStrs
+pub mod Programs
+pub mod ReadPrograms
