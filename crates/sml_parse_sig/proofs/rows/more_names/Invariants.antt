@@ -1,0 +1,14 @@
+use Rattle.std.proofs.Common.{◌≡◌, length}
+use Rattle.readers.specs.Reader.{row, skip, token_by, with_front}
+use Rattle.readers.specs.Forms.{seps}
+use Rattle.sml_grammar.specs.Tokens.{is}
+use Rattle.sml_grammar.specs.Words.{AND}
+use Rattle.sml_grammar_sig.specs.ReadDescs.{named_read}
+use Rattle.sml_parse_sig.proofs.Steps.{and_named_less}
+use Rattle.sml_parse_sig.proofs.rows.more_names.Given as goal
+
+abbrev pub invariant-items : goal.invariant-items
+invariant-items l = row (is AND) (skip (is AND) named_read) l.tokens ≡ with_front l.found (row (is AND) (skip (is AND) (named_read)) l.rest)
+
+abbrev pub decreases-items : goal.decreases-items
+decreases-items l = length l.rest
