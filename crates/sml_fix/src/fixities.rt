@@ -83,15 +83,4 @@ impl Fixities {
         }
         Ok(copy)
     }
-
-    /// The identifiers that were ever set, each with what it is. NoMemory where none is left.
-    pub fn entries(&self) -> Result<Vec<(Name, Option<(u8, Side)>)>, NoMemory>
-        ensures { IfOk result (λ v. v.items ≡ spec.entries self.now) }
-    {
-        let mut found = Vec::new(self.alloc);
-        for (vid, fixity) in self.table.iter() {
-            found.push((Name::new(self.alloc, vid.bytes())?, *fixity))?;
-        }
-        Ok(found)
-    }
 }

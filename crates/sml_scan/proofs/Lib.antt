@@ -2,5 +2,3 @@ pub mod Sets
 pub mod Rows
 pub mod Grown
 pub mod Shorter
-pub mod Places
-pub mod Infix

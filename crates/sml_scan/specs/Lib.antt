@@ -1,4 +1,2 @@
 pub mod Classes
 pub mod Rows
-pub mod Fixed
-pub mod Faults

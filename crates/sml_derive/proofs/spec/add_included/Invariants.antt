@@ -1,6 +1,0 @@
-use Rattle.std.proofs.Common.{◌≡◌, ◌++◌, drop, map}
-use Rattle.sml_derive.specs.Signatures.{included}
-use Rattle.sml_derive.proofs.spec.add_included.Given as goal
-
-abbrev pub invariant-loop-one : goal.invariant-loop-one
-invariant-loop-one l = l.done ++ map (included l.place) (drop l.one-index l.names) ≡ l.initial.done ++ map (included l.place) l.names

@@ -1,9 +1,0 @@
-pub mod StepRows
-pub mod Steps
-pub mod Near
-pub mod Rules
-pub mod RowSteps
-pub mod Scopes
-pub mod Parts
-pub mod Atoms
-pub mod Hands

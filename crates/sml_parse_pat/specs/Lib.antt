@@ -1,4 +1,0 @@
-pub mod Rows
-pub mod Nested
-pub mod Levels
-pub mod Promise
