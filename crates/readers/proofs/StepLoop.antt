@@ -35,19 +35,19 @@ module _ {K X U : Type 0} (test : K → Bool) (step : X → U → X) (q : X → 
       go (Ok z) f = ap (prefixed z.0) (f z refl)
       go (Err e) f = refl
 
-  steps_more : (x : X) (s : List K) (z : U × List K) → head_is test (first s) ≡ true → q x s ≡ Ok z → steps test step q x s ≡ prefixed z.0 (steps test step q (step x z.0) z.1)
+  pub steps_more : (x : X) (s : List K) (z : U × List K) → head_is test (first s) ≡ true → q x s ≡ Ok z → steps test step q x s ≡ prefixed z.0 (steps test step q (step x z.0) z.1)
   unfolding steps_by
   steps_more x [] z h e = absurd cc
   steps_more x (c ∷ s) z h e =
       let l = less x (c ∷ s) z e in
       rw h (rw e (ap (prefixed z.0) (steps_fuel (length s) (length z.1) (step x z.0) z.1 (omega arith) (omega arith))))
 
-  steps_done : (x : X) (s : List K) → head_is test (first s) ≡ false → steps test step q x s ≡ Ok ([], s)
+  pub steps_done : (x : X) (s : List K) → head_is test (first s) ≡ false → steps test step q x s ≡ Ok ([], s)
   unfolding steps_by
   steps_done x [] h = refl
   steps_done x (c ∷ s) h = rw h refl
 
-  steps_fail : (x : X) (s : List K) (e : Code × List K) → head_is test (first s) ≡ true → q x s ≡ Err e → steps test step q x s ≡ Err e
+  pub steps_fail : (x : X) (s : List K) (e : Code × List K) → head_is test (first s) ≡ true → q x s ≡ Err e → steps test step q x s ≡ Err e
   unfolding steps_by
   steps_fail x [] e h i = absurd cc
   steps_fail x (c ∷ s) e h i = rw h (rw i refl)

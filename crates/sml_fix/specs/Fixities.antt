@@ -19,6 +19,10 @@ status_in (Some s) = s
 abbrev pub settings : Fixities → Settings
 settings f w = status_in (get (pointwise nat_eq) f.table w)
 
+-- the identifiers that were ever set, each with what it is
+abbrev pub entries : Fixities → List (List ℕ × Option (ℕ × Side))
+entries f = f.table.entries
+
 -- no identifier is an operator
 abbrev pub none : Settings
 none w = None

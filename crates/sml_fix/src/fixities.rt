@@ -34,8 +34,8 @@ impl Fixities {
         Ok(fixities)
     }
 
-    /// No identifier is an operator.
-    fn none(alloc: Global) -> Fixities
+    /// Those under which no identifier is an operator.
+    pub fn none(alloc: Global) -> Fixities
         ensures { spec.settings result ≡ spec.none }
     {
         Fixities {
@@ -82,5 +82,16 @@ impl Fixities {
             copy.set(Name::new(self.alloc, vid.bytes())?, *fixity)?;
         }
         Ok(copy)
+    }
+
+    /// The identifiers that were ever set, each with what it is. NoMemory where none is left.
+    pub fn entries(&self) -> Result<Vec<(Name, Option<(u8, Side)>)>, NoMemory>
+        ensures { IfOk result (λ v. v.items ≡ spec.entries self.now) }
+    {
+        let mut found = Vec::new(self.alloc);
+        for (vid, fixity) in self.table.iter() {
+            found.push((Name::new(self.alloc, vid.bytes())?, *fixity))?;
+        }
+        Ok(found)
     }
 }

@@ -76,7 +76,7 @@ head_exact cs s n = go (some_operator cs) refl
 
 -- ---- expressions and declarations
 
-every : (s : Known) (n : ℕ) → All s n
+pub every : (s : Known) (n : ℕ) → All s n
 every = all_exact head_exact
 
 pub exp_exact : (cs : Changes) (s : Known) (n : ℕ) → ExpP cs s n

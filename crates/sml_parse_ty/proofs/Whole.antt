@@ -1,7 +1,5 @@
 -- What is promised of the type at a place.
-use Rattle.std.proofs.Common.{◌≡◌, ℕ, ◌+◌, ◌-◌, ◌≤◌, Bool, true, false, List, [], ◌∷◌, ◌++◌, length, take, drop, Option, Ok, Err, refl, sym, ap, ◌∙◌, append_assoc, arith}
-use Rattle.std.proofs.lemmas.List.{length-append, length-drop, take-append-drop}
-use Rattle.std.proofs.Math.Seq.{drop-append_seam, take-length}
+use Rattle.std.proofs.Common.{◌≡◌, ℕ, ◌-◌, ◌≤◌, Bool, true, false, List, [], ◌∷◌, ◌++◌, length, drop, Option, Ok, Err, refl, sym, ap, ◌∙◌, arith}
 use Rattle.tl_text.specs.declared.fault.Fault.{Fault}
 use Rattle.readers.specs.declared.code.Code.{Code as Cause}
 use Rattle.readers.specs.declared.fault.ReadError.{ReadError}
@@ -20,7 +18,9 @@ use Rattle.sml_ast.specs.declared.ty.Ty.{Ty}
 use Rattle.sml_grammar.specs.Types.{Tx, TyR}
 use Rattle.sml_grammar.specs.ReadTypes.{ty_read, ty_in}
 use Rattle.sml_grammar.proofs.Types.{ty_exact}
-use Rattle.sml_parse_ty.specs.Promise.{Derives, IsType, ends, GivesType, Refusal, RefusesAs, fault_at, FaultOf}
+use Rattle.sml_scan.proofs.Places.{behind, count_is, next_is}
+use Rattle.sml_scan.specs.Faults.{RefusesAs, fault_at, FaultOf}
+use Rattle.sml_parse_ty.specs.Promise.{Derives, IsType, ends, GivesType, Refusal}
 
 -- ---- types are read exactly
 
@@ -38,26 +38,6 @@ higher h k t w u d = mono (ty_exact Known.Readings 0).part h k t w tt u d
 
 some : (h : ℕ) → 1 ≤ h → Viable (TyR (at_height h false)) []
 some h le = (ty_exact Known.Readings 0).part.some (at_height h false) tt le
-
--- ---- places in a list
-
--- the tokens from a place on, as a slice to the end has them
-pub slice_is : (tokens : List Token) (at : ℕ) → take (length tokens - at) (drop at tokens) ≡ drop at tokens
-slice_is tokens at = ap (λ (n : ℕ). take n (drop at tokens)) (sym (length-drop at tokens)) ∙ take-length (drop at tokens)
-
-cut : (tokens front rest : List Token) → tokens ≡ front ++ rest → drop (length tokens - length rest) tokens ≡ rest
-cut tokens front rest whole =
-    let count : length tokens - length rest ≡ length front = omega (arith, ap length whole, length-append front rest) in
-    ap (λ (n : ℕ). drop n tokens) count ∙ (ap (λ (z : List Token). drop (length front) z) whole ∙ drop-append_seam front rest)
-
--- what is left of a list that was read up to there
-behind : (tokens read rest : List Token) (at : ℕ) → drop at tokens ≡ read ++ rest → drop (length tokens - length rest) tokens ≡ rest
-behind tokens read rest at e =
-    cut tokens (take at tokens ++ read) rest (sym (take-append-drop at tokens) ∙ (ap (λ (z : List Token). take at tokens ++ z) e ∙ sym (append_assoc (take at tokens) read rest)))
-
-count_is : (tokens read rest : List Token) (at : ℕ) → at ≤ length tokens → drop at tokens ≡ read ++ rest → at + length read ≡ length tokens - length rest
-count_is tokens read rest at le e =
-    omega (arith, length-drop at tokens, ap length e, length-append read rest)
 
 -- ---- the clauses
 
@@ -81,8 +61,7 @@ only_type room tokens at ty h rest le e t next d st =
     let same = ok_is ((ty, h), rest) ((t, d.height), drop next tokens) (sym e ∙ read_type room tokens at t next d st) in
     let trees : ty ≡ t = ap (λ (z : Tx × List Token). z.0.0) same in
     let left : rest ≡ drop next tokens = ap (λ (z : Tx × List Token). z.1) same in
-    let counts : length tokens - length rest ≡ next =
-    omega (arith, d.counts, ap length left, length-drop next tokens, length-drop at tokens, ap length d.parts, length-append d.read (drop next tokens)) in
+    let counts : length tokens - length rest ≡ next = next_is tokens d.read rest at next le left d.parts d.counts in
     let pair : Ty → ℕ → Ty × ℕ = λ a b. (a, b) in
     ap (λ (a : Ty). pair a (length tokens - length rest)) trees ∙ ap (pair t) counts
 

@@ -2,18 +2,15 @@
 use Rattle.std.specs.Prelude.{◌≡◌, ℕ, ◌+◌, Bool, not, List, [], ◌∷◌, ◌++◌, length, drop, Option, Some, Result, Ok, Err}
 use Rattle.tl_text.specs.declared.place.Place.{Place}
 use Rattle.tl_text.specs.declared.code.Code.{Code}
-use Rattle.tl_text.specs.declared.code.Code.TheVariants as code
 use Rattle.tl_text.specs.declared.fault.Fault.{Fault}
 use Rattle.tl_text.specs.declared.fault.Fault.TheVariants as fault
 use Rattle.readers.specs.declared.code.Code.{Code as Cause}
-use Rattle.readers.specs.declared.code.Code.TheVariants as cause
-use Rattle.readers.specs.declared.fault.ReadError.{ReadError}
-use Rattle.readers.specs.declared.fault.ReadError.TheVariants as errors
 use Rattle.readers.specs.Reader.{first, head_is}
 use Rattle.readers.specs.Language.{Viable}
 use Rattle.readers.specs.WholeText.{RefusedAt}
 use Rattle.sml_lex.specs.declared.token.Token.{Token}
 use Rattle.sml_ast.specs.declared.ty.Ty.{Ty}
+use Rattle.sml_scan.specs.Faults.{named}
 use Rattle.sml_grammar.specs.Words.{ARROW}
 use Rattle.sml_grammar.specs.Tokens.{Firsts, just, union, tokens_of, long_tycons, stars}
 use Rattle.sml_grammar.specs.Types.{ty_on, TyR}
@@ -45,11 +42,6 @@ GivesType (Ok x) ty next = x ≡ (ty, next)
 GivesType (Err (fault.NoMemory e)) ty next = Unit {0}
 GivesType (Err (fault.Refused r)) ty next = ⊥
 
-abbrev pub named : Cause → Code
-named cause.Grammar = code.Grammar
-named cause.Depth = code.Depth
-named cause.FixityClash = code.FixityClash
-
 -- the first token with which no type of the height goes on, and why
 pub record Refusal (room : ℕ) (tokens : List Token) (at : ℕ) (place : Place) (code : Code) : Type 0 where
   pub cause : Cause
@@ -58,18 +50,3 @@ pub record Refusal (room : ℕ) (tokens : List Token) (at : ℕ) (place : Place)
   pub refused : RefusedAt TyR room (drop at tokens) cause (next ∷ rest)
   pub stands : next.place ≡ place
   pub why : named cause ≡ code
-
--- a refusal is of such a place with such a code
-abbrev pub RefusesAs : {T : Type 0} → (Place → Code → Type 0) → Result T Fault → Type 0
-RefusesAs P (Ok x) = Unit {0}
-RefusesAs P (Err (fault.NoMemory e)) = Unit {0}
-RefusesAs P (Err (fault.Refused r)) = P r.place r.code
-
--- a refused token as a fault; at the end, where no token is left to name, it is one of memory
-abbrev pub fault_at : Cause → List Token → Fault
-fault_at c [] = fault.NoMemory (record {})
-fault_at c (t ∷ rest) = fault.Refused (record { place = t.place; code = named c })
-
-abbrev pub FaultOf : ReadError Token → Fault → Type 0
-FaultOf errors.NoMemory f = f ≡ fault.NoMemory (record {})
-FaultOf (errors.Refused c rest) f = f ≡ fault_at c rest.now

@@ -2,15 +2,16 @@ ghost use Rattle.std.specs.Prelude.{◌≡◌, ◌<◌, ◌≤◌, ◌^◌, ℕ,
 ghost use Rattle.readers.specs.Reader.{first};
 ghost use Rattle.sml_ast.specs.declared.ty.Ty.{Ty};
 ghost use Rattle.sml_fix.specs.Fixities.{settings};
+ghost use Rattle.sml_scan.specs.Faults.{RefusesAs};
 ghost use Rattle.sml_parse_ty.specs.Promise as spec;
 
 use crate::inside::ty;
-use readers::ReadError;
 use sml_ast::Ty;
 use sml_fix::Fixities;
-use sml_lex::{Token, Tokens};
+use sml_lex::Tokens;
+use sml_scan::fault;
 use std::alloc::Global;
-use tl_text::{Code, Fault, NoMemory, Refusal};
+use tl_text::Fault;
 
 /// The type at a place of the tokens, as far as they go on with it, and the number of the token behind it. Types do not
 /// depend on fixities, which stay as they are.
@@ -34,7 +35,7 @@ pub fn parse_ty(
     // The type of tokens that end it is given, unless memory runs out.
     ensures only { (t : Ty) (next : ℕ) → spec.Derives room tokens.now at t next → spec.ends (first (drop next tokens.now)) ≡ true → spec.GivesType result t next }
     // A refusal stands at the first token with which no type of the height goes on, and its code says why.
-    ensures refused { spec.RefusesAs (spec.Refusal room tokens.now at) result }
+    ensures refused { RefusesAs (spec.Refusal room tokens.now at) result }
     ensures kept { settings fix.new ≡ settings fix.old }
 {
     let _ = fix;
@@ -45,28 +46,5 @@ pub fn parse_ty(
             Ok((found.0, next as u32))
         }
         Err(error) => Err(fault(error)),
-    }
-}
-
-/// The fault of a refused token.
-fn fault(error: ReadError<'_, Token>) -> Fault
-    ensures { spec.FaultOf error.entry result }
-{
-    match error {
-        ReadError::Refused(cause, [token, ..]) => Fault::Refused(Refusal {
-            place: token.place,
-            code: named(cause),
-        }),
-        _ => Fault::NoMemory(NoMemory),
-    }
-}
-
-fn named(cause: readers::Code) -> Code
-    ensures { result ≡ spec.named cause }
-{
-    match cause {
-        readers::Code::Grammar => Code::Grammar,
-        readers::Code::Depth => Code::Depth,
-        readers::Code::FixityClash => Code::FixityClash,
     }
 }

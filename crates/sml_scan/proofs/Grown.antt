@@ -1,8 +1,10 @@
 -- Phrases that grow to the right, as the code reads them.
 use Rattle.std.proofs.Common.{◌≡◌, ℕ, ◌<◌, ◌≤◌, Bool, true, false, ltb, List, [], ◌∷◌, Ok, Err, refl, ◌∙◌}
 use Rattle.std.proofs.lemmas.Bool.{le-ltb, lt-ltb}
-use Rattle.readers.specs.declared.code.Code.{Code}
 use Rattle.readers.specs.declared.code.Code.TheVariants.{Depth}
+use Rattle.readers.specs.declared.fault.ReadError.{ReadError}
+use Rattle.readers.specs.declared.fault.ReadError.TheVariants as errors
+use Rattle.readers.specs.Given.{Fails}
 use Rattle.readers.specs.Reader.{first, Answer, Reader, head_is, barred, guard, steps}
 use Rattle.readers.specs.Forms.{growth, any_tree}
 use Rattle.readers.proofs.Guard.{unless_ok}
@@ -35,3 +37,8 @@ module _ {K E U : Type 0} (test : K → Bool) (tall : E → ℕ) (step : E → U
 
     pub grown_deep : (x : E) (s : List K) (all : Answer K E) → all ≡ ended step x (steps test step next x s) → head_is test (first s) ≡ true → h < tall x → all ≡ Err (Depth, s)
     grown_deep x s all inv i lt = state_fails test step next next_less x s (Depth, s) all inv i (high x s i lt)
+
+    -- a suffix that fails
+    pub grown_fails : (f : ReadError K) (x : E) (s : List K) (all : Answer K E) → all ≡ ended step x (steps test step next x s) → head_is test (first s) ≡ true → tall x ≤ h → Fails f (suffix s) → Fails f all
+    grown_fails errors.NoMemory x s all inv i le e = tt
+    grown_fails (errors.Refused code rest) x s all inv i le e = state_fails test step next next_less x s (code, rest.now) all inv i (low x s i le ∙ e)

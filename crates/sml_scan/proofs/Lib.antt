@@ -2,3 +2,5 @@ pub mod Sets
 pub mod Rows
 pub mod Grown
 pub mod Shorter
+pub mod Places
+pub mod Infix

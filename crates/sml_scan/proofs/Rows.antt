@@ -17,14 +17,14 @@ module _ {K T S : Type 0} (tree : T → S) (tall : T → ℕ) where
   abbrev pub gathered : List S → ℕ → Answer K (List T) → Answer K (List S × ℕ)
   gathered found n r = r >>= λ y. Ok ((found ++ map tree y.0, max n (highest tall y.0)), y.1)
 
-  front : (found : List S) (n : ℕ) (z : T) (r : Answer K (List T)) → gathered found n (with_front (z ∷ []) r) ≡ gathered (found ++ tree z ∷ []) (max n (tall z)) r
+  pub front : (found : List S) (n : ℕ) (z : T) (r : Answer K (List T)) → gathered found n (with_front (z ∷ []) r) ≡ gathered (found ++ tree z ∷ []) (max n (tall z)) r
   front found n z (Ok y) =
       let same : max n (max (tall z) (highest tall y.0)) ≡ max (max n (tall z)) (highest tall y.0) = omega arith in
       ap (λ (l : List S). gave l (max n (max (tall z) (highest tall y.0))) y.1) (sym (append_assoc found (tree z ∷ []) (map tree y.0)))
       ∙ ap (λ (m : ℕ). gave ((found ++ tree z ∷ []) ++ map tree y.0) m y.1) same
   front found n z (Err e) = refl
 
-  none : (found : List S) (n : ℕ) (s : List K) → gathered found n (Ok ([], s)) ≡ Ok ((found, n), s)
+  pub none : (found : List S) (n : ℕ) (s : List K) → gathered found n (Ok ([], s)) ≡ Ok ((found, n), s)
   none found n s =
       let same : max n 0 ≡ n = omega arith in
       ap (λ (l : List S). gave l (max n 0) s) (append-nil found) ∙ ap (λ (m : ℕ). gave found m s) same

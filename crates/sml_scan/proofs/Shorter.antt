@@ -129,7 +129,7 @@ row_kept test p P s z e = row_keeps test p P (length s) s z e
 pub seps_shorter : {K T : Type 0} (sep : K → Bool) (p : Reader K T) → Shortens p → Shortens (seps sep p)
 seps_shorter sep p P = mapped_shorter cons_of (both p (row sep (skip sep p))) (both_shorter p (row sep (skip sep p)) P (row_kept sep (skip sep p) (skip_shorter sep p (kept p P))))
 
-steps_keeps : {K X U : Type 0} (test : K → Bool) (step : X → U → X) (q : X → Reader K U) → ((x : X) → Shortens (q x)) → (n : ℕ) (x : X) (s : List K) (z : List U × List K) → steps_by test step q n x s ≡ Ok z → length z.1 ≤ length s
+pub steps_keeps : {K X U : Type 0} (test : K → Bool) (step : X → U → X) (q : X → Reader K U) → ((x : X) → Shortens (q x)) → (n : ℕ) (x : X) (s : List K) (z : List U × List K) → steps_by test step q n x s ≡ Ok z → length z.1 ≤ length s
 unfolding steps_by
 steps_keeps test step q Q zero x s z e = let l = rest_is [] s z e in omega arith
 steps_keeps test step q Q (suc n) x s z e =

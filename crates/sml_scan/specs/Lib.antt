@@ -1,2 +1,4 @@
 pub mod Classes
 pub mod Rows
+pub mod Fixed
+pub mod Faults

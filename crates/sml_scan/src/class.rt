@@ -58,7 +58,7 @@ fn int_class(decimal: bool, value: i64) -> u32
     }
 }
 
-fn lit_class(decimal: bool, lit: &Lit) -> u32
+pub(crate) fn lit_class(decimal: bool, lit: &Lit) -> u32
     ensures { result ≡ grammar.lit_class decimal lit.now }
 {
     match lit {
@@ -107,7 +107,7 @@ fn long_class(parts: &[Name]) -> u32
     }
 }
 
-fn path_class(parts: &[Name]) -> u32
+pub(crate) fn path_class(parts: &[Name]) -> u32
     ensures { result ≡ grammar.path_class parts.now }
 {
     match parts {
@@ -130,7 +130,7 @@ fn token_class(token: &Token) -> u32
     }
 }
 
-fn is_listed(number: u32, list: &[u32]) -> bool
+pub(crate) fn is_listed(number: u32, list: &[u32]) -> bool
     ensures { result ≡ grammar.listed number list.now }
 {
     for one in list {

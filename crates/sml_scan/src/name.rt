@@ -81,7 +81,7 @@ fn path(alloc: Global, kind: &Kind) -> Result<Path, NoMemory>
 }
 
 /// The long identifier that the token shows.
-fn long_ident(alloc: Global, token: &Token) -> Result<LongIdent, NoMemory>
+pub(crate) fn long_ident(alloc: Global, token: &Token) -> Result<LongIdent, NoMemory>
     ensures { IfOk result (λ x. x ≡ grammar.long_ident token.now) }
 {
     Ok((token.place, path(alloc, &token.kind)?))
@@ -96,7 +96,7 @@ fn tyvar_name(alloc: Global, kind: &Kind) -> Result<Name, NoMemory>
     }
 }
 
-fn first_name(alloc: Global, kind: &Kind) -> Result<Name, NoMemory>
+pub(crate) fn first_name(alloc: Global, kind: &Kind) -> Result<Name, NoMemory>
     ensures { IfOk result (λ v. v ≡ grammar.first_part (grammar.parts_of kind.now)) }
 {
     match kind {
@@ -110,7 +110,7 @@ fn first_name(alloc: Global, kind: &Kind) -> Result<Name, NoMemory>
 }
 
 /// The label that the token shows. NoMemory for a number of more than 32 bits, which is no label: the caller has tested that.
-fn label(alloc: Global, token: &Token) -> Result<Label, NoMemory>
+pub(crate) fn label(alloc: Global, token: &Token) -> Result<Label, NoMemory>
     ensures { IfOk result (λ x. x ≡ grammar.label token.now) }
 {
     match &token.kind {

@@ -1,5 +1,5 @@
 ghost use Rattle.std.specs.Prelude.{◌≡◌, ◌<◌, ◌≤◌, ◌++◌, ◌∷◌, [], IfOk, IfSome, IsSome, OnOk, OnErr, drop, length, reverse, take};
-ghost use Rattle.sml_fix.specs.Fixities.{settings};
+ghost use Rattle.sml_fix.specs.Fixities.{entries, settings};
 ghost use Rattle.sml_grammar_exp.specs.Decs.{fixed, started};
 ghost use Rattle.sml_grammar_exp.specs.ReadLevels as read;
 ghost use Rattle.sml_scope.specs.Scope.{said};
@@ -40,6 +40,21 @@ impl Scope {
         let fix = Fixities::start(alloc)?;
         let log = first_changes(alloc)?;
         Ok(Scope { alloc, fix, log })
+    }
+
+    /// The directives that leave these fixities, one for each identifier that was ever set. NoMemory where none is left.
+    pub fn of(alloc: Global, fix: &Fixities) -> Result<Scope, NoMemory>
+        ensures { IfOk result (λ s. s ≡ entries fix.now) }
+    {
+        let mut scope = Scope {
+            alloc,
+            fix: Fixities::none(alloc),
+            log: Vec::new(alloc),
+        };
+        for (name, fixity) in fix.entries()? {
+            scope.note(&name, fixity)?;
+        }
+        Ok(scope)
     }
 
     /// How many directives are in force, which names this point for `leave`.

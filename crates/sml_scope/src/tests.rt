@@ -20,5 +20,7 @@ fn scopes(rt: HostRuntime) -> Result<(), Fail> {
     assert!(rt; scope.has_operator());
     scope.leave(outer)?;
     assert_eq!(rt; scope.fixities().get(&minus), Some((6, Side::Left)));
+    let taken_up = Scope::of(alloc, scope.fixities())?;
+    assert_eq!(rt; taken_up.count(), 18);
     Ok(())
 }

@@ -5,7 +5,8 @@ use Rattle.sml_lex.specs.declared.token.Token.{Token}
 use Rattle.sml_grammar.specs.ReadTypes.{ty_read}
 use Rattle.sml_parse_ty.specs.Promise.{IsType}
 use Rattle.sml_parse_ty.proofs.Steps.{ty_less}
-use Rattle.sml_parse_ty.proofs.Whole.{slice_is, found_type, only_type, fault_only, fault_right}
+use Rattle.sml_scan.proofs.Places.{slice_is}
+use Rattle.sml_parse_ty.proofs.Whole.{found_type, only_type, fault_only, fault_right}
 use Rattle.sml_parse_ty.proofs.parse.parse_ty.Goals as goal
 
 pub overflow_sub-next : goal.overflow_sub-next
