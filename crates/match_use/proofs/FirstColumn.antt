@@ -146,7 +146,7 @@ once-has seen (h ∷ hs) x o e = by (list_any (is_same_head h) seen) refl o (onc
     by false f (inl q) k l = or_right (list_any (is_same_head x) seen) _ (or_left (is_same_head x h) _ (subst (λ (y : Head). is_same_head x y ≡ true) (sym q) e))
     by false f (inr q) k l = shuffled (is_same_head x h) (list_any (is_same_head x) seen) (list_any (is_same_head x) (once (h ∷ seen) hs)) (l q e)
 
-heads-own : (rows : List (List Pattern)) → list_all (λ h. is_same_head h h) (filter_map head_of rows) ≡ true
+pub heads-own : (rows : List (List Pattern)) → list_all (λ h. is_same_head h h) (filter_map head_of rows) ≡ true
 heads-own [] = refl
 heads-own ([] ∷ rows) = heads-own rows
 heads-own ((Wild ∷ ps) ∷ rows) = heads-own rows

@@ -8,11 +8,13 @@ pub mod Reducing
 pub mod Weights
 pub mod Opening
 pub mod Pigeons
+pub mod Heads
 pub mod FirstColumn
 pub mod Others
 pub mod Naming
 pub mod Splitting
 pub mod Progressing
 pub mod Answering
+pub mod Keeping
 pub mod Gathering
 pub mod Visiting

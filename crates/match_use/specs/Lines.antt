@@ -1,6 +1,7 @@
 -- The rows of a matrix, and what a shape for each column does to them.
-use Rattle.std.specs.Prelude.{◌≡◌, ◌&&◌, ◌||◌, ◌⊎◌, ℕ, Bool, true, false, IsTrue, List, [], ◌∷◌, map, Option, Some, None}
+use Rattle.std.specs.Prelude.{◌≡◌, ◌&&◌, ◌||◌, ◌⊎◌, ℕ, Bool, true, false, IsTrue, List, [], ◌∷◌, map, Option, Some, None, Vec}
 use Rattle.std.specs.List.{list_all}
+use Rattle.std.proofs.Common.{Global}
 use Rattle.sml_static.specs.Shapes.{Pattern, Shape, AnyShape, hits, misses}
 use Rattle.sml_static.specs.Exhaustive.{are_named, is_shape}
 use Rattle.match_use.specs.Alike.{agree}
@@ -27,6 +28,9 @@ line_of row = record { rule = row.rule; columns = columns_of row.columns }
 
 abbrev pub lines_of : List Row → List Line
 lines_of = map line_of
+
+abbrev pub matrices_of : List (Vec Row Global) → List (List Line)
+matrices_of = map (λ v. lines_of v.items)
 
 -- the matrix without the rules
 abbrev pub plain : List Line → List (List Pattern)

@@ -1,9 +1,9 @@
 -- Matrices that are still to be looked at, and what has been found so far.
-use Rattle.std.specs.Prelude.{◌≡◌, ◌⊎◌, ◌↔◌, ◌+◌, ◌-◌, ◌*◌, ◌<◌, ◌≤◌, ℕ, Bool, false, IsTrue, List, [], ◌∷◌, map, reverse, length, Option, Some, None, Vec}
+use Rattle.std.specs.Prelude.{◌≡◌, ◌⊎◌, ◌↔◌, ◌+◌, ◌-◌, ◌*◌, ◌<◌, ◌≤◌, ℕ, Bool, false, IsTrue, List, [], ◌∷◌, reverse, length, Option, Some, None, Vec}
 use Rattle.std.specs.List.{slice_index_or}
 use Rattle.std.proofs.Common.{Global}
 use Rattle.sml_static.specs.Exhaustive.{Splits}
-use Rattle.match_use.specs.Lines.{Line, lines_of, plain, all_agree, AreNamed, IsTaken}
+use Rattle.match_use.specs.Lines.{Line, matrices_of, plain, all_agree, AreNamed, IsTaken}
 use Rattle.match_use.specs.Steps.{first_step}
 use Rattle.match_use.specs.declared.reduce.Step.TheVariants as step
 use Rattle.sml_static.specs.Shapes.{Pattern}
@@ -18,7 +18,7 @@ StartsWide ((p ∷ ps) ∷ rows) = Unit {0}
 
 -- the matrices of a row of them, the last one first
 abbrev pub pending : List (Vec Row Global) → List (List Line)
-pending todo = reverse (map (λ v. lines_of v.items) todo)
+pending todo = reverse (matrices_of todo)
 
 -- some of these matrices is taken for the rule, or for none
 abbrev pub TakenIn : (ℕ → List (List ℕ)) → List (List Line) → Option ℕ → Type 0

@@ -7,7 +7,7 @@ ghost use Rattle.match_use.specs.Columns.{column_of};
 ghost use Rattle.match_use.specs.Keys.{shared_key};
 
 use crate::column::{Begin, Column, beginning};
-use crate::key::{Key, same_key};
+use crate::key::Key;
 use mid_ast::MidRule;
 use tl_text::Lit;
 
@@ -34,6 +34,7 @@ fn agrees_with_all(column: Column<'_>, rules: &[MidRule]) -> bool
     true
 }
 
+#[tactic(auto, using(crate::proofs::Heads::key_same))]
 fn columns_agree(a: Column<'_>, b: Column<'_>) -> bool
     ensures { result ≡ agree (column_of a.entry) (column_of b.entry) }
 {
@@ -44,7 +45,7 @@ fn columns_agree(a: Column<'_>, b: Column<'_>) -> bool
         (Begin::Cell(p), Begin::Cell(q)) => columns_agree(p, q),
         (Begin::Literal(l), Begin::Literal(m)) => literals_agree(l, m),
         (Begin::Made(k, _, p), Begin::Made(j, _, q)) => {
-            if same_key(k, j) {
+            if k == j {
                 columns_agree(p, q)
             } else {
                 keys_agree(k, j)

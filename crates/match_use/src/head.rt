@@ -1,40 +1,34 @@
-ghost use Rattle.std.specs.Prelude.{◌≡◌};
-ghost use Rattle.sml_static.specs.Shapes.{is_same_literal};
-ghost use Rattle.sml_static.specs.Exhaustive.{is_same_head, has_others};
+ghost use Rattle.std.specs.Prelude.{◌≡◌, true};
+ghost use Rattle.sml_static.specs.Exhaustive.{HeadLiteral, has_others};
+ghost use Rattle.match_use.specs.Heads.{stands};
 ghost use Rattle.match_use.specs.Keys.{shared_head};
 
-use crate::key::{Key, same_key};
-use tl_text::Lit;
+use crate::key::Key;
+use tl_text::{Lit, Name};
 
-/// What a column is split by: a literal, a constructor with how many its datatype has, or another than those there.
+/// What a column is split by: a literal, a constructor with how many its datatype has, or another than those there. Two
+/// are equal where they are alike, whatever count they have.
 #[derive(Clone, Copy)]
+#[derive_where(PartialEq, Eq, Hash)]
 pub enum Head<'a> {
-    Literal(&'a Lit),
-    Key(Key<'a>, u32),
+    Int(i64),
+    Word(u32),
+    Char(u8),
+    Text(&'a Name),
+    Key(Key<'a>, #[derive_where(skip)] u32),
     Another,
 }
 
-/// Whether two literals are alike.
-pub fn same_literal(a: &Lit, b: &Lit) -> bool
-    ensures { result ≡ is_same_literal a.now b.now }
+/// The head for a literal.
+pub fn literal_head<'a>(literal: &'a Lit) -> Head<'a>
+    ensures head { shared_head result ≡ HeadLiteral literal.now }
+    ensures standing { stands (shared_head result) ≡ true }
 {
-    match (a, b) {
-        (Lit::Int(x), Lit::Int(y)) => x == y,
-        (Lit::Word(x), Lit::Word(y)) => x == y,
-        (Lit::Char(x), Lit::Char(y)) => x == y,
-        (Lit::Text(x), Lit::Text(y)) => x == y,
-        _ => false,
-    }
-}
-
-/// Whether two heads are alike.
-pub fn same_head(a: Head<'_>, b: Head<'_>) -> bool
-    ensures { result ≡ is_same_head (shared_head a.entry) (shared_head b.entry) }
-{
-    match (a, b) {
-        (Head::Literal(l), Head::Literal(m)) => same_literal(l, m),
-        (Head::Key(k, _), Head::Key(j, _)) => same_key(k, j),
-        _ => false,
+    match literal {
+        Lit::Int(value) => Head::Int(*value),
+        Lit::Word(value) => Head::Word(*value),
+        Lit::Char(code) => Head::Char(*code),
+        Lit::Text(text) => Head::Text(text),
     }
 }
 
@@ -43,12 +37,8 @@ pub fn others_than(first: Head<'_>, count: usize) -> bool
     ensures { result ≡ has_others (shared_head first.entry) count }
 {
     match first {
-        Head::Literal(literal) => match literal {
-            Lit::Char(_) => count < 256,
-            _ => true,
-        },
+        Head::Char(_) => count < 256,
         Head::Key(Key::Of(_, _), of) => count < of as usize,
-        Head::Key(Key::Exception(_), _) => true,
-        Head::Another => true,
+        _ => true,
     }
 }

@@ -1,15 +1,13 @@
-ghost use Rattle.std.specs.Prelude.{◌≡◌, nat_eq};
-ghost use Rattle.std.specs.Cmp.Lexicographic.{pointwise};
-ghost use Rattle.std.specs.Str.{bytes_eq};
-ghost use Rattle.sml_static.specs.Shapes.{datatype_of, last_part, key_of, is_same_key};
+ghost use Rattle.std.specs.Prelude.{◌≡◌};
+ghost use Rattle.sml_static.specs.Shapes.{datatype_of, last_part, key_of};
 ghost use Rattle.match_use.specs.Keys.{shared_key};
 
 use sml_static::Ty;
 use tl_text::{Name, Path};
 
 /// A constructor as far as it tells values apart: of a datatype, by the number of the datatype's name and the last part
-/// of the constructor's path, or an exception, by the parts of its path.
-#[derive(Clone, Copy)]
+/// of the constructor's path, or an exception, by the parts of its path. Two are equal where they are alike.
+#[derive(Clone, Copy, PartialEq, Eq, Hash)]
 pub enum Key<'a> {
     Of(u32, &'a [u8]),
     Exception(&'a [Name]),
@@ -44,16 +42,5 @@ fn last<'a>(parts: &'a [Name]) -> &'a [u8]
     match parts.last() {
         Some(name) => name.bytes(),
         None => &[],
-    }
-}
-
-/// Whether two constructors are alike.
-pub fn same_key(a: Key<'_>, b: Key<'_>) -> bool
-    ensures { result ≡ is_same_key (shared_key a.entry) (shared_key b.entry) }
-{
-    match (a, b) {
-        (Key::Of(d, n), Key::Of(e, m)) => d == e && n == m,
-        (Key::Exception(p), Key::Exception(q)) => p == q,
-        _ => false,
     }
 }

@@ -12,6 +12,7 @@ mod agree;
 mod column;
 mod constructor;
 mod head;
+mod kept;
 mod key;
 mod matches;
 mod reduce;

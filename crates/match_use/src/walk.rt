@@ -1,15 +1,14 @@
-ghost use Rattle.std.specs.Prelude.{◌≡◌, ◌+◌, ◌<◌, ◌≤◌, ◌∷◌, ◌++◌, [], ℕ, length, map, replicate, IfOk, OnOk, IsTrue, MatchOption};
+ghost use Rattle.std.specs.Prelude.{◌≡◌, ◌+◌, ◌<◌, ◌≤◌, ◌∷◌, ◌++◌, [], ℕ, length, replicate, IfOk, OnOk, IsTrue, MatchOption};
 ghost use Rattle.sml_static.specs.Exhaustive.{Splits};
-ghost use Rattle.match_use.specs.Keys.{shared_head};
-ghost use Rattle.match_use.specs.Lines.{lines_of, plain, all_agree};
-ghost use Rattle.match_use.specs.Steps.{first_step, kept_lines};
+ghost use Rattle.match_use.specs.Lines.{lines_of, matrices_of, plain, all_agree};
+ghost use Rattle.match_use.specs.Steps.{first_step};
 ghost use Rattle.match_use.specs.Reduced.{are_below};
 ghost use Rattle.match_use.specs.Progress.{pending, Progress, Visited, IsSplitting};
 
-use crate::head::Head;
+use crate::kept::kept_for_each;
 use crate::reduce::reduced;
 use crate::row::{Columns, Row};
-use crate::split::{heads_to_split, kept};
+use crate::split::heads_to_split;
 use bumpalo::Bump;
 use std::alloc::Global;
 use tl_text::NoMemory;
@@ -105,29 +104,23 @@ fn split_up<'a>(
     ensures { IfOk result (λ go. Visited SPLITS (lines_of rows.now) (pending todo.old.items) (pending todo.new.items)
         tally.old.reached.items tally.new.reached.items tally.old.exhaustive tally.new.exhaustive tally.old.splits tally.new.splits go) }
 {
-    let found = heads_to_split(alloc, rows)?;
-    let heads = found.as_slice();
-    if found.len() > SPLITS - tally.splits {
+    let heads = heads_to_split(alloc, rows)?;
+    let count = heads.len();
+    if count > SPLITS - tally.splits {
         return Ok(false);
     }
-    push_kept(alloc, heads, rows, todo)?;
-    tally.splits += found.len();
+    let matrices = kept_for_each(alloc, &heads, rows)?;
+    push_all(matrices, todo)?;
+    tally.splits += count;
     Ok(true)
 }
 
-// Puts what is kept for each head to the end, that of the first head last.
-fn push_kept<'a>(
-    alloc: Global,
-    heads: &[Head<'a>],
-    rows: &[Row<'a>],
-    todo: &mut Vec<Vec<Row<'a>>>,
-) -> Result<(), NoMemory>
-    ensures { OnOk result (pending todo.new.items ≡ map (kept_lines (lines_of rows.now)) (map shared_head heads.now) ++ pending todo.old.items) }
+// Moves matrices to the end of others, the first one last.
+fn push_all<'a>(matrices: Vec<Vec<Row<'a>>>, todo: &mut Vec<Vec<Row<'a>>>) -> Result<(), NoMemory>
+    ensures { OnOk result (pending todo.new.items ≡ matrices_of matrices.entry.items ++ pending todo.old.items) }
 {
-    let mut left = heads.len();
-    while left > 0 {
-        left -= 1;
-        let matrix = kept(alloc, heads[left], rows)?;
+    let mut left = matrices;
+    while let Some(matrix) = left.pop() {
         todo.push(matrix)?;
     }
     Ok(())

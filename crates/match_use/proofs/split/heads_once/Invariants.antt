@@ -9,6 +9,6 @@ use Rattle.match_use.proofs.split.heads_once.Given as goal
 
 abbrev pub invariant-loop-row : goal.invariant-loop-row
 invariant-loop-row l = record {
-  each : gathered (map shared_head l.found.items) (plain (lines_of (drop l.row-index l.rows))) ≡ heads (plain (lines_of l.rows));
-  standing : list_all stands (map shared_head l.found.items) ≡ true;
+  each : gathered (map shared_head l.found.keys) (plain (lines_of (drop l.row-index l.rows))) ≡ heads (plain (lines_of l.rows));
+  standing : list_all stands (map shared_head l.found.keys) ≡ true;
 }
