@@ -37,7 +37,7 @@ module _ {K V A E : Type 0} (tight : V → ℕ) (right : V → Bool) (view : K �
   bar_is x [] r v e = absurd cc
   bar_is x (c ∷ s) r v e = ap (rows_of.bars tight right view top tall leaf node h n x) (shows c s r v e)
 
-  suffix_is : (x : E) (s r : List K) (v : V) (o : Option Code) → token_by view s ≡ Ok (v, r) → rows_of.judge tight right h n (top x) (tall x) v ≡ o
+  pub suffix_is : (x : E) (s r : List K) (v : V) (o : Option Code) → token_by view s ≡ Ok (v, r) → rows_of.judge tight right h n (top x) (tall x) v ≡ o
       → suffix x s ≡ unless o s (inner (rows_of.floor_of tight right v) r >>= λ t. Ok ((v, t.0), t.1))
   suffix_is x s r v o e j = rw (bar_is x s r v e ∙ j) (rw e refl)
 
