@@ -1,0 +1,4 @@
+pub mod Rows
+pub mod Nested
+pub mod Levels
+pub mod Promise
