@@ -54,6 +54,9 @@ fn of_pattern(alloc: Global, fix: &Fixities, tokens: &[Token]) -> Result<String,
 
 /// Whether such a phrase begins, and how many tokens are left behind it; or the code, and how many are left from the refused one on.
 fn answer(alloc: Global, source: &[u8], call: Call) -> Result<String, Fail> {
+    if source.len() > 1000 {
+        return Err("out of range".into());
+    }
     let tokens = lex(alloc, 1, source)?;
     let fix = Fixities::start(alloc)?;
     match call {

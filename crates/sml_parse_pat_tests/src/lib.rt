@@ -8,5 +8,3 @@
 
 #[cfg(test)]
 mod calls;
-#[cfg(test)]
-mod patterns;
