@@ -1,0 +1,4 @@
+pub mod Operators
+pub mod Levels
+pub mod Rows
+pub mod Heads
