@@ -1,0 +1,25 @@
+use Rattle.std.proofs.Common.{sym, ◌∙◌, arith}
+use Rattle.sml_parse_exp.proofs.Changes.{data_still, types_still, exns_still}
+use Rattle.sml_parse_exp.proofs.Hands.{datatype_in, types_in, exceptions_in}
+use Rattle.sml_parse_exp.proofs.inside.Inside.with_types.Goals as goal
+
+pub returns-then-is_next-clause-gives : goal.returns-then-is_next-clause-gives
+returns-then-is_next-clause-gives g c =
+    rw (datatype_in c.args.scope.now c.args.room c.args.tokens.now c.in_ok-place.rest.now c.in_ok-place.place (sym c.is_next.ensures ∙ c.if-is_next.true) c.in_ok-place.ensures, sym c.fixities.ensures) c.datatype.ensures
+
+pub returns-then-is_next-clause-moves : goal.returns-then-is_next-clause-moves
+returns-then-is_next-clause-moves g c = data_still c.in_ok-place.place c.in_ok-place.rest.now c.datatype.result c.args.scope.now _ c.datatype.ensures
+
+pub returns-then-is_next-2-clause-gives : goal.returns-then-is_next-2-clause-gives
+returns-then-is_next-2-clause-gives g c =
+    rw (types_in c.args.scope.now c.args.room c.args.tokens.now c.in_ok-place-2.rest.now c.in_ok-place-2.place (sym c.is_next.ensures ∙ c.if-is_next.false) (sym c.is_next-2.ensures ∙ c.if-is_next-2.true) (let le = c.if-room-lt1.false in omega arith) c.in_ok-place-2.ensures) c.types.ensures
+
+pub returns-then-is_next-2-clause-moves : goal.returns-then-is_next-2-clause-moves
+returns-then-is_next-2-clause-moves g c = types_still c.in_ok-place-2.place c.in_ok-place-2.rest.now c.types.result c.args.scope.now _ c.types.ensures
+
+pub returns-then-is_next-3-clause-gives : goal.returns-then-is_next-3-clause-gives
+returns-then-is_next-3-clause-gives g c =
+    rw (exceptions_in c.args.scope.now c.args.room c.args.tokens.now c.in_ok-place-3.rest.now c.in_ok-place-3.place (sym c.is_next.ensures ∙ c.if-is_next.false) (sym c.is_next-2.ensures ∙ c.if-is_next-2.false) (sym c.is_next-3.ensures ∙ c.if-is_next-3.true) (let le = c.if-room-lt1-2.false in omega arith) c.in_ok-place-3.ensures, sym c.fixities-2.ensures) c.exceptions.ensures
+
+pub returns-then-is_next-3-clause-moves : goal.returns-then-is_next-3-clause-moves
+returns-then-is_next-3-clause-moves g c = exns_still c.in_ok-place-3.place c.in_ok-place-3.rest.now c.exceptions.result c.args.scope.now _ c.exceptions.ensures

@@ -1,0 +1,11 @@
+pub mod Whole
+pub mod Steps
+pub mod Going
+pub mod Growths
+pub mod Turns
+pub mod Locals
+pub mod Scopes
+pub mod FunctorRows
+pub mod Tops
+pub mod Rooms
+pub mod Hands

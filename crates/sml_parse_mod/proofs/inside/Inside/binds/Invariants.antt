@@ -1,0 +1,16 @@
+use Rattle.std.proofs.Common.{◌≡◌, length}
+use Rattle.readers.specs.Reader.{mapped}
+use Rattle.sml_grammar_mod.specs.Strs.{strbind_of}
+use Rattle.sml_parse_mod.specs.Levels as levels
+use Rattle.sml_parse_mod.specs.Trees as trees
+use Rattle.sml_parse_mod.proofs.Steps.{binding_less}
+use Rattle.sml_parse_mod.proofs.Turns.{row}
+use Rattle.sml_parse_mod.proofs.inside.Inside.binds.Given as goal
+
+abbrev pub invariant-turns : goal.invariant-turns
+invariant-turns g l =
+    (mapped trees.strbinds (levels.binds l.fn.scope l.room) l.tokens ≡ row (levels.bind l.fn.scope l.room) l.room strbind_of (binding_less l.fn.scope l.room) ((l.found, l.height), trees.bind l.last) l.rest)
+    × (l.scope ≡ l.fn.scope)
+
+abbrev pub decreases-turns : goal.decreases-turns
+decreases-turns g l = length l.rest

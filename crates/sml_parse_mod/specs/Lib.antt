@@ -1,0 +1,5 @@
+pub mod Trees
+pub mod Levels
+pub mod Nested
+pub mod Late
+pub mod Promise
