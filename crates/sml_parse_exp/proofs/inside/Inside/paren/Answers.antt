@@ -1,7 +1,0 @@
-use Rattle.std.proofs.Common.{sym, ◌∙◌, arith}
-use Rattle.sml_parse_exp.proofs.Hands.{parts_in}
-use Rattle.sml_parse_exp.proofs.inside.Inside.paren.Goals as goal
-
-pub returns-clause-gives : goal.returns-clause-gives
-returns-clause-gives g c =
-    rw (parts_in c.args.scope.now c.args.room c.args.place c.args.tokens.now (sym c.is_next.ensures ∙ c.if-is_next.false) (sym c.begins_exp.ensures ∙ c.if-not-begins_exp.false) c.if-room-lt2.false) c.parts.ensures.gives

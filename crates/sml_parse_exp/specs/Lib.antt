@@ -1,4 +1,0 @@
-pub mod Trees
-pub mod Clauses
-pub mod Levels
-pub mod Nested

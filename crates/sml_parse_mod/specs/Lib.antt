@@ -1,5 +1,0 @@
-pub mod Trees
-pub mod Levels
-pub mod Nested
-pub mod Late
-pub mod Promise
