@@ -42,7 +42,7 @@ impl Scope {
         Ok(Scope { alloc, fix, log })
     }
 
-    /// The directives that leave these fixities, one for each identifier that was ever set. NoMemory where none is left.
+    /// A directive for each identifier that was ever set in these fixities, with what it is there. NoMemory where none is left.
     pub fn of(alloc: Global, fix: &Fixities) -> Result<Scope, NoMemory>
         ensures { IfOk result (λ s. s ≡ entries fix.now) }
     {
