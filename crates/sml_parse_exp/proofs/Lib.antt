@@ -1,0 +1,14 @@
+pub mod StepRows
+pub mod Steps
+pub mod Near
+pub mod Rules
+pub mod RowSteps
+pub mod Scopes
+pub mod Parts
+pub mod Atoms
+pub mod Hands
+pub mod Changes
+pub mod Pairs
+pub mod Wholes
+pub mod Fronts
+pub mod DecRows

@@ -1,0 +1,4 @@
+pub mod Trees
+pub mod Clauses
+pub mod Levels
+pub mod Nested
