@@ -36,7 +36,7 @@ fn called(
 }
 
 /// The fixities of the start, and `infixr 6 ++`.
-fn fixities(alloc: Global) -> Result<Fixities, Fail> {
+pub fn fixities(alloc: Global) -> Result<Fixities, Fail> {
     let mut fix = Fixities::start(alloc)?;
     let plus = Name::new(alloc, b"++")?;
     fix.set(plus, Some((6, Side::Right)))?;
