@@ -1,0 +1,6 @@
+use Rattle.std.proofs.Common.{arith}
+use Rattle.sml_parse_mod.proofs.Steps.{funbinds_is}
+use Rattle.sml_parse_mod.proofs.functors.functors.Goals as goal
+
+pub returns-clause-gives : goal.returns-clause-gives
+returns-clause-gives c = rw (funbinds_is c.args.scope.now c.args.room c.args.tokens.now (let some = c.if-room-eq0.false in omega arith)) c.level.ensures.gives
