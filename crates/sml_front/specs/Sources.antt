@@ -10,7 +10,7 @@ use Rattle.sml_ast.specs.declared.program.Program.{Program}
 use Rattle.sml_ast.specs.declared.bare_program.BareProgram.{BareProgram}
 use Rattle.sml_fix.specs.Fixities.{Settings, settings}
 use Rattle.sml_fix.specs.declared.fixities.Fixities.{Fixities}
-use Rattle.sml_grammar_exp.specs.Decs.{Changes}
+use Rattle.sml_grammar_exp.specs.Decs.{Changes, fixed}
 use Rattle.sml_parse_mod.specs.Promise as grammar
 use Rattle.sml_parse_mod.specs.Promise.{IsProgram}
 use Rattle.sml_restrict.specs.Programs.{Breaks, breaches}
@@ -57,3 +57,27 @@ pub record Unlawful (number : ℕ) (before : Changes) (bytes : List ℕ) (place 
 abbrev pub Refusal : ℕ → Changes → List ℕ → Place → Code → Type 0
 Refusal number before bytes place code =
     NoTokens number bytes place code ⊎ (NoProgram number before bytes place code ⊎ Unlawful number before bytes place code)
+
+-- ---- under fixities, whatever directives left them
+
+-- the bytes are this program under the fixities before it, which leaves these
+pub record IsSourceUnder (number : ℕ) (fix : Settings) (bytes : List ℕ) (program : Program) (left : Settings) : Type 0 where
+  pub before : Changes
+  pub leaves : fixed before ≡ fix
+  pub source : IsSource number before bytes program left
+
+-- what is found is such a program without its derived forms
+pub record FoundUnder (number : ℕ) (fix : Settings) (bytes : List ℕ) (bare : BareProgram) (left : Settings) : Type 0 where
+  pub program : Program
+  pub source : IsSourceUnder number fix bytes program left
+  pub derived : bare ≡ Derived program
+
+-- the bytes are refused there, with this code
+abbrev pub RefusedUnder : ℕ → Settings → List ℕ → Place → Code → Type 0
+RefusedUnder number fix bytes place code = (before : Changes) × (fixed before ≡ fix) × Refusal number before bytes place code
+
+-- the answer is this refusal, unless memory ran out
+abbrev pub GivesRefusal : Result (BareProgram × Fixities) Fault → Place → Code → Type 0
+GivesRefusal (Ok x) place code = ⊥
+GivesRefusal (Err (fault.NoMemory e)) place code = Unit {0}
+GivesRefusal (Err (fault.Refused r)) place code = r ≡ record { place = place; code = code }

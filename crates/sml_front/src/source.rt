@@ -1,8 +1,10 @@
-ghost use Rattle.std.specs.Prelude.{◌+◌, ◌-◌, ◌<◌, ◌^◌, IfOk, length};
+ghost use Rattle.std.specs.Prelude.{◌-◌, ◌<◌, ◌^◌, IfOk, length};
+ghost use Rattle.tl_text.specs.declared.place.Place.{Place};
+ghost use Rattle.tl_text.specs.declared.code.Code.{Code};
 ghost use Rattle.sml_ast.specs.declared.program.Program.{Program};
-ghost use Rattle.sml_fix.specs.Fixities.{entries, settings, Settings};
+ghost use Rattle.sml_fix.specs.Fixities.{settings, Settings};
 ghost use Rattle.sml_scan.specs.Faults.{RefusesAs};
-ghost use Rattle.sml_front.specs.Sources.{Found, GivesSource, IsSource, Refusal};
+ghost use Rattle.sml_front.specs.Sources.{FoundUnder, GivesRefusal, GivesSource, IsSourceUnder, RefusedUnder};
 
 use sml_ast::BareProgram;
 use sml_derive::derive;
@@ -30,11 +32,13 @@ pub fn read_source(
 ) -> Result<(BareProgram, Fixities), Fault>
     requires { length bytes.now < 2 ^ 32 - 1 }
     // What is given is the program of the bytes without its derived forms, and the fixities behind it.
-    ensures found { IfOk result (λ x. Found number (entries fix.now) bytes.now x.0 (settings x.1)) }
+    ensures found { IfOk result (λ x. FoundUnder number (settings fix.now) bytes.now x.0 (settings x.1)) }
     // Bytes that are a lawful program are not refused: it is given, unless memory runs out.
-    ensures only { (p : Program) (left : Settings) → IsSource number (entries fix.now) bytes.now p left → GivesSource result p left }
+    ensures only { (p : Program) (left : Settings) → IsSourceUnder number (settings fix.now) bytes.now p left → GivesSource result p left }
     // A refusal is of the first step that fails, at its place and with its code.
-    ensures refused { RefusesAs (Refusal number (entries fix.now) bytes.now) result }
+    ensures refused { RefusesAs (RefusedUnder number (settings fix.now) bytes.now) result }
+    // Where a step fails that refusal is given, unless memory runs out.
+    ensures refuses { (place : Place) (code : Code) → RefusedUnder number (settings fix.now) bytes.now place code → GivesRefusal result place code }
 {
     let tokens = lex(alloc, number, bytes)?;
     let (program, left) = parse(alloc, &tokens, fix)?;

@@ -1,5 +1,5 @@
 -- What is promised of the tokens of a source.
-use Rattle.std.specs.Prelude.{◌≡◌, ℕ, ◌⊎◌, List, ◌∷◌, Some, None, Result, Ok, Err}
+use Rattle.std.specs.Prelude.{◌≡◌, ℕ, ◌⊎◌, List, ◌∷◌, Some, None, Result, Ok, Err, map}
 use Rattle.tl_text.specs.declared.place.Place.{Place}
 use Rattle.tl_text.specs.declared.code.Code.{Code}
 use Rattle.tl_text.specs.declared.fault.Fault.{Fault}
@@ -7,13 +7,17 @@ use Rattle.tl_text.specs.declared.fault.Fault.TheVariants as fault
 use Rattle.readers.specs.declared.code.Code.{Code as Cause}
 use Rattle.sml_lex.specs.declared.token.Token.{Token}
 use Rattle.sml_ast.specs.declared.program.Program.{Program}
-use Rattle.sml_fix.specs.Fixities.{Settings, settings}
+use Rattle.sml_fix.specs.Fixities.{Settings, entries, settings}
 use Rattle.sml_fix.specs.declared.fixities.Fixities.{Fixities}
 use Rattle.sml_scan.specs.Faults.{named}
 use Rattle.sml_grammar.specs.Promise as grammar
 use Rattle.sml_grammar_exp.specs.Decs.{Changes, fixed}
 use Rattle.sml_grammar_mod.specs.Programs.{Parses, ProgramR}
 use Rattle.sml_parse_mod.specs.Late.{refusal, unsupported}
+
+-- a directive for each identifier that was ever set, with what it is there
+abbrev pub told : Fixities → Changes
+told f = map (λ e. (e.0, settings f e.0)) (entries f)
 
 -- the tokens are the program, of a height of at most 1,000, where these directives are in force before it and these fixities
 -- behind it

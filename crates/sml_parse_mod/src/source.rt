@@ -1,7 +1,7 @@
 ghost use Rattle.std.specs.Prelude.{◌≡◌, [], IfOk};
 ghost use Rattle.readers.specs.Given.{Gives};
 ghost use Rattle.sml_ast.specs.declared.program.Program.{Program};
-ghost use Rattle.sml_fix.specs.Fixities.{entries, settings, Settings};
+ghost use Rattle.sml_fix.specs.Fixities.{settings, Settings};
 ghost use Rattle.sml_scan.specs.Faults.{RefusesAs};
 ghost use Rattle.sml_parse_mod.specs.Levels as levels;
 ghost use Rattle.sml_parse_mod.specs.Nested.{MovesWhole};
@@ -16,7 +16,7 @@ use sml_lex::{Token, Tokens};
 use sml_scan::fault;
 use sml_scope::Scope;
 use std::alloc::Global;
-use tl_text::Fault;
+use tl_text::{Fault, NoMemory};
 
 /// The greatest height of a program's tree.
 const HEIGHT: u32 = 1000;
@@ -35,6 +35,19 @@ fn whole<'a>(
     Ok(found.0)
 }
 
+/// A scope with a directive for each identifier that was ever set in these fixities, with what it is there.
+fn told(alloc: Global, fix: &Fixities) -> Result<Scope, NoMemory>
+    ensures { IfOk result (λ s. s ≡ spec.told fix.now) }
+{
+    let mut scope = Scope::start(alloc)?;
+    scope.leave(0)?;
+    for (name, _) in fix.entries()? {
+        let fixity = fix.get(&name);
+        scope.note(&name, fixity)?;
+    }
+    Ok(scope)
+}
+
 /// The program that the tokens are, the fixities before it being these, and the fixities in force behind it.
 ///
 /// # Errors
@@ -46,14 +59,14 @@ fn whole<'a>(
 /// - NoMemory where none is left.
 pub fn parse(alloc: Global, tokens: &Tokens, fix: &Fixities) -> Result<(Program, Fixities), Fault>
     // What is given is the program of the tokens, in which no phrase is unsupported, and the fixities behind it.
-    ensures found { IfOk result (λ x. spec.IsProgram (entries fix.now) tokens.now x.0 (settings x.1)) }
+    ensures found { IfOk result (λ x. spec.IsProgram (spec.told fix.now) tokens.now x.0 (settings x.1)) }
     // A program without such phrases is given, unless memory runs out.
-    ensures only { (p : Program) (left : Settings) → spec.IsProgram (entries fix.now) tokens.now p left → spec.GivesProgram result p left }
+    ensures only { (p : Program) (left : Settings) → spec.IsProgram (spec.told fix.now) tokens.now p left → spec.GivesProgram result p left }
     // A refusal stands at the first token with which no program of the height goes on, and its code says why; or the tokens are
     // a program, and it stands at the first phrase that is not supported.
-    ensures refused { RefusesAs (spec.Refusal (entries fix.now) tokens.now) result }
+    ensures refused { RefusesAs (spec.Refusal (spec.told fix.now) tokens.now) result }
 {
-    let mut scope = Scope::of(alloc, fix)?;
+    let mut scope = told(alloc, fix)?;
     let tokens = tokens.items();
     let found = match whole(alloc, &mut scope, tokens) {
         Ok(found) => found,

@@ -1,0 +1,4 @@
+pub mod Rows
+pub mod Cores
+pub mod Modules
+pub mod Refusals
