@@ -14,6 +14,8 @@ mod end;
 mod lines;
 mod list;
 mod run;
+#[cfg(test)]
+mod source_tests;
 mod tell;
 #[cfg(test)]
 mod tests;

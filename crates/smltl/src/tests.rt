@@ -7,9 +7,9 @@ use std::alloc::Global;
 use std::test::Fail;
 use tl_text::{Code, List, Name, Place, Refusal};
 
-type Files<'a> = &'a [(&'a str, &'a [u8])];
+pub type Files<'a> = &'a [(&'a str, &'a [u8])];
 
-const RT: &str =
+pub const RT: &str =
     "module Rt = struct\n  type word = int\n  let print = fun s -> print_string s\nend\n";
 
 const HELLO: &[u8] = b"val _ = print \"hi\\n\"\n";
@@ -23,7 +23,7 @@ const USAGE: &str =
 
 const ROOM: usize = 4_096;
 
-const COMMAND: &[&str] = &["smltl", "l.txt"];
+pub const COMMAND: &[&str] = &["smltl", "l.txt"];
 
 const TWO_HELLOS: Files<'static> = &[
     ("l.txt", b"a.sml\nb.sml\n"),
@@ -33,14 +33,14 @@ const TWO_HELLOS: Files<'static> = &[
 
 /// The number of the call that fails, of each device, where it is not 0; and the room on standard output.
 #[derive(Clone, Copy)]
-struct Faults {
+pub struct Faults {
     src: u64,
     out: u64,
     notes: u64,
     room: usize,
 }
 
-const NO_FAULTS: Faults = Faults {
+pub const NO_FAULTS: Faults = Faults {
     src: 0,
     out: 0,
     notes: 0,
@@ -49,14 +49,19 @@ const NO_FAULTS: Faults = Faults {
 
 /// How a call of `run` ended, and what it wrote.
 #[derive(Drop)]
-struct Ran {
-    end: End,
-    out: MemSink,
-    notes: MemSink,
+pub struct Ran {
+    pub end: End,
+    pub out: MemSink,
+    pub notes: MemSink,
 }
 
 /// Calls `run` over devices in memory, with output in pieces of ten bytes.
-fn run_over(alloc: Global, words: &[&str], files: Files<'_>, faults: &Faults) -> Result<Ran, Fail> {
+pub fn run_over(
+    alloc: Global,
+    words: &[&str],
+    files: Files<'_>,
+    faults: &Faults,
+) -> Result<Ran, Fail> {
     let mut given = Vec::new(alloc);
     for word in words {
         given.push(String::from_str(alloc, word)?)?;
@@ -75,7 +80,7 @@ fn run_over(alloc: Global, words: &[&str], files: Files<'_>, faults: &Faults) ->
     Ok(Ran { end, out, notes })
 }
 
-fn joined(alloc: Global, parts: &[&str]) -> Result<Vec<u8>, Fail> {
+pub fn joined(alloc: Global, parts: &[&str]) -> Result<Vec<u8>, Fail> {
     let mut bytes = Vec::new(alloc);
     for part in parts {
         bytes.extend_from_slice(part.as_bytes())?;
@@ -84,7 +89,7 @@ fn joined(alloc: Global, parts: &[&str]) -> Result<Vec<u8>, Fail> {
 }
 
 /// The end at a source that is refused at the first line.
-fn refused(source: u32, col: u32, code: Code) -> End
+pub fn refused(source: u32, col: u32, code: Code) -> End
     requires { 1 ≤ col }
 {
     let place = Place {
@@ -94,35 +99,6 @@ fn refused(source: u32, col: u32, code: Code) -> End
         byte: col - 1,
     };
     End::Refused(Refusal { place, code })
-}
-
-// A unit with another text or name, or a source that is accepted or refused wrongly.
-#[test]
-fn translates_a_source(rt: HostRuntime) -> Result<(), Fail> {
-    let alloc = rt.alloc();
-    let cases: [(&[u8], &str); 6] = [
-        (b"val _ = print \"hi\\n\"", "  let _ = Rt.print \"hi\\n\"\n"),
-        (b"", ""),
-        (b" \t\r\n", ""),
-        (b"val x = 1 val y = \"a\"", "  let x = 1\n  let y = \"a\"\n"),
-        (
-            b"val\nx1\n=\n999999999\nval x1 = 007\n",
-            "  let x1 = 999999999\n  let x1 = 7\n",
-        ),
-        (
-            b"val _ = print \"\" val s = \"a'\\\"\\\\b\"",
-            "  let _ = Rt.print \"\"\n  let s = \"a'\\\"\\\\b\"\n",
-        ),
-    ];
-    for (source, items) in cases {
-        let files: [(&str, &[u8]); 2] = [("l.txt", b"a.sml\n"), ("a.sml", source)];
-        let got = run_over(alloc, COMMAND, &files, &NO_FAULTS)?;
-        let want = joined(alloc, &[RT, "module U1_a = struct\n", items, "end\n"])?;
-        assert_eq!(rt; got.end, End::Done, "of {items}");
-        assert_eq!(rt; got.out.bytes(), want.as_slice(), "of {items}");
-        assert_eq!(rt; got.notes.bytes(), b"".as_slice(), "of {items}");
-    }
-    Ok(())
 }
 
 // A unit that is named by another part of its source's name.
@@ -188,7 +164,7 @@ fn goes_over_lists(rt: HostRuntime) -> Result<(), Fail> {
     let two = whole.len();
     let one = joined(alloc, &[RT, HELLO_A])?.len();
     let none = RT.len();
-    let unbuilt = "c.sml:1:11: error 36: not supported yet\n";
+    let unbuilt = "c.sml:1:1: error 36: not supported yet\n";
     let missing = "smltl: d.sml: cannot be opened\n";
     let cases: [(&[u8], End, usize, &str); 14] = [
         (b"", End::Done, none, ""),
@@ -196,10 +172,10 @@ fn goes_over_lists(rt: HostRuntime) -> Result<(), Fail> {
         (b"a.sml", End::Done, one, ""),
         (b"a.sml\r\n", End::Done, one, ""),
         (b"#x\r\n\r\na.sml\r\n\n#y\nb.sml", End::Done, two, ""),
-        (b"c.sml", refused(1, 11, Code::Unbuilt), none, unbuilt),
+        (b"c.sml", refused(1, 1, Code::Unbuilt), none, unbuilt),
         (
             b"a.sml\nc.sml\nb.sml\n",
-            refused(2, 11, Code::Unbuilt),
+            refused(2, 1, Code::Unbuilt),
             one,
             unbuilt,
         ),

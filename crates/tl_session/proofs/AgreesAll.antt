@@ -10,7 +10,7 @@ use Rattle.runs.specs.Primitives as prims
 use Rattle.runs.specs.Seen.{shown, ConfigStep, seen_config}
 use Rattle.runs.proofs.Begin.{text_ordered}
 use Rattle.runs.proofs.Ends.{done_agrees}
-use Rattle.item_source.specs.declared.item.SourceItem.{SourceItem}
+use Rattle.built_items.specs.declared.item.SourceItem.{SourceItem}
 use Rattle.tl_session.specs.Program.{Dec, decs_of}
 use Rattle.tl_session.specs.Meaning.{State, Env, Done, run as run_decs, initial, meaning, seen}
 use Rattle.tl_session.specs.Kept.{Source, basis_after}

@@ -149,10 +149,10 @@ pub prints : (tenv : text.Env) (f a : run.Exp) (t : List ℕ) (v : run.Val)
     → (n : ℕ) (s : prims.St) → mean.ev (mean.mean (suc n)) tenv (run.Node run.Apply (run.Cons f (run.Cons a run.Nil))) s ≡ mean.Done (run.Tup run.NoVals) (prims.written t s)
 prints tenv f a t v hf ha is n s = rw (hf (mean.mean (suc n)) s, ha (mean.mean (suc n)) s, is)
 
-written_nothing : (s : prims.St) → prims.written [] s ≡ s
+pub written_nothing : (s : prims.St) → prims.written [] s ≡ s
 written_nothing s = ap (λ o. record { mem = s.mem; exns = s.exns; out = o }) (append-nil s.out)
 
-output_nothing : (s : State) → record { output = s.output ++ [] } ≡ s
+pub output_nothing : (s : State) → record { output = s.output ++ [] } ≡ s
 output_nothing s = ap (λ (o : List ℕ). let r : State = record { output = o } in r) (append-nil s.output)
 
 applies : (env : Env) (f a : Exp) (v w : Val) (t : List ℕ)

@@ -1,26 +1,31 @@
 -- The trees that are written are ones that the grammar and its rules allow.
-use Rattle.std.proofs.Common.{◌≡◌, ℕ, zero, suc, ◌+◌, ◌/◌, ◌%◌, ◌<◌, ◌≤◌, inl, inr, Bool, true, false, not, cond, eqb, leb, ◌&&◌, ◌||◌, List, [], ◌∷◌, ◌++◌, map, Some, refl, ap, sym, subst, ◌∙◌, arith}
-use Rattle.std.specs.Prelude.{is_some, nat_lt, nat_eq}
+use Rattle.std.proofs.Common.{◌≡◌, ℕ, zero, suc, ◌+◌, ◌^◌, ◌/◌, ◌%◌, ◌<◌, ◌≤◌, Bool, true, false, not, cond, eqb, leb, ◌&&◌, ◌||◌, List, [], ◌∷◌, ◌++◌, map, Some, refl, ap, sym, subst, ◌∙◌, arith}
+use Rattle.std.specs.Prelude.{pos, negsuc, is_some, nat_eq}
 use Rattle.std.specs.Char.{is_ascii_alphanumeric}
 use Rattle.std.specs.Int.{is_in_range}
 use Rattle.std.specs.Fmt.{decimal, digits, digits_onto, digit_glyph}
 use Rattle.std.specs.Str.{bytes_eq}
 use Rattle.std.proofs.lemmas.Slice.Eq.{bytes_eq-Decides}
-use Rattle.std.proofs.lemmas.Bool.{lt-ltb, le-leb}
+use Rattle.std.proofs.lemmas.Bool.{lt-ltb, le-leb, ltb-true}
 use Rattle.tl_cases.specs.Rows.{value_at}
 use Rattle.tl_cases.specs.Words.{oc_rows}
 use Rattle.tl_text.specs.declared.lit.Lit.{Lit}
 use Rattle.tl_text.specs.declared.lit.Lit.TheVariants as lit
-use Rattle.item_source.specs.declared.item.SourceItem.{SourceItem}
-use Rattle.item_source.specs.declared.item.SourceItem.TheVariants.{Print, Bind}
-use Rattle.item_source.specs.Item.{is_digit, Each, IsWritten, AreWritten, IsName, Writes, Spells}
-use Rattle.item_source.specs.Source.{Front, IsProgram}
+use Rattle.oc_names.specs.declared.names.NameKind.TheVariants as kind
+use Rattle.oc_names.proofs.Spellings.{is_lawful}
+use Rattle.built_items.specs.declared.item.SourceItem.{SourceItem}
+use Rattle.built_items.specs.declared.item.Target.{Target}
+use Rattle.built_items.specs.declared.item.Target.TheVariants as target
+use Rattle.built_items.specs.declared.item.Value.{Value}
+use Rattle.built_items.specs.declared.item.Value.TheVariants as value
+use Rattle.built_items.specs.Built.{is_literal}
 use Rattle.oc_rules.specs.Bytes.{is_small, is_capital, is_part, every, heads, shaped}
 use Rattle.oc_rules.specs.Allowed as allowed
 use Rattle.oc_rules.specs.Allowed.{is_word, is_low, is_cap, Allowed}
-use Rattle.oc_rules.proofs.Tests.{both_ways, and_true, and_of, not_of, between_is, digit_part}
-use Rattle.tl_session.specs.Written.{base_of, before_dot, after_slash, plain_byte, unit_name, literal_of, item_tree, items_tree, unit_tree, rt_tree}
-use Rattle.tl_session.proofs.BuiltItems.{small_value}
+use Rattle.oc_rules.proofs.Tests.{both_ways, and_true, and_of, not_of, digit_part}
+use Rattle.tl_session.specs.Written.{base_of, before_dot, after_slash, plain_byte, unit_name, literal_of, target_tree, value_tree, items_tree, unit_tree, rt_tree}
+use Rattle.tl_session.specs.LawfulItems.{LawfulTarget, LawfulValue, LawfulItems}
+use Rattle.tl_session.proofs.BuiltItems.{may_be_named}
 
 -- ---- words: what holds of each word holds of a name that is one
 
@@ -44,34 +49,7 @@ no_word p n e f = go (is_some (value_at n oc_rows)) refl
     go true y = both_ways (p n) (found_is p oc_rows n e y) f
     go false y = refl
 
--- each word has a small letter behind its first
-abbrev goes_on : List ℕ → Bool
-goes_on [] = false
-goes_on (b ∷ []) = false
-goes_on (b ∷ c ∷ rest) = is_small c
-
-digit_no_letter : (d : ℕ) → is_digit d ≡ true → is_small d ≡ false
-digit_no_letter d e = go (is_small d) refl
-  where
-    go : (t : Bool) → is_small d ≡ t → t ≡ false
-    go true y = let low = between_is 97 122 d y in let high = between_is 48 57 d e in absurd (omega (arith, low.0, high.1))
-    go false y = refl
-
-digits_end : (b : ℕ) (ds : List ℕ) → Each is_digit ds → goes_on (b ∷ ds) ≡ false
-digits_end b [] h = refl
-digits_end b (d ∷ ds) h = digit_no_letter d h.0
-
 -- ---- names
-
-digits_parts : (ds : List ℕ) → Each is_digit ds → every is_part ds ≡ true
-digits_parts [] h = refl
-digits_parts (d ∷ ds) h = and_of (is_part d) (every is_part ds) (digit_part d h.0) (digits_parts ds h.1)
-
-name_low : (x : List ℕ) → IsName x → is_low x ≡ true
-name_low [] h = absurd h
-name_low (b ∷ ds) h =
-    and_of (shaped is_small is_part (b ∷ ds)) (not (is_word (b ∷ ds))) (and_of (is_small b) (every is_part ds) h.0 (digits_parts ds h.1))
-    (not_of (is_word (b ∷ ds)) (no_word goes_on (b ∷ ds) refl (digits_end b ds h.1)))
 
 parts_append : (xs ys : List ℕ) → every is_part xs ≡ true → every is_part ys ≡ true → every is_part (xs ++ ys) ≡ true
 parts_append [] ys h k = k
@@ -133,47 +111,30 @@ unit_cap k name =
 
 -- ---- literals
 
-byte_below : (b : ℕ) → b < 256 → nat_lt b 256 ≡ true
-byte_below b h = lt-ltb b 256 h
-
-written_byte : (b : ℕ) (row : List ℕ) → IsWritten b row → nat_lt b 256 ≡ true
-written_byte b row (inl n) = byte_below b (omega arith)
-written_byte b row (inr (inl q)) = byte_below b (omega arith)
-written_byte b row (inr (inr (inl s))) = byte_below b (omega arith)
-written_byte b row (inr (inr (inr p))) = byte_below b (omega arith)
-
-written_bytes : (text row : List ℕ) → AreWritten text row → every (λ c. nat_lt c 256) text ≡ true
-written_bytes [] row h = refl
-written_bytes (b ∷ text) row h = and_of (nat_lt b 256) (every (λ c. nat_lt c 256) text) (written_byte b h.0 h.2) (written_bytes text h.1 h.3)
-
-literal_allowed : (written : List ℕ) (l : Lit) → Writes written l → allowed.Literal (literal_of l)
-literal_allowed written (lit.Int z) h =
-    let P : _ → Type 0 = λ w. allowed.Literal (literal_of (lit.Int w)) in
-    let small : h.0 ≤ 999999999 = small_value written h.0 h.1 in
-    subst P (sym h.2) (let low : h.0 < 4611686018427387904 = omega arith in low)
-literal_allowed written (lit.Word n) h = absurd h
-literal_allowed written (lit.Char c) h = absurd h
-literal_allowed written (lit.Text t) h = written_bytes t h.0 h.1
+literal_allowed : (l : Lit) → is_literal l ≡ true → allowed.Literal (literal_of l)
+literal_allowed (lit.Int (pos n)) h = ltb-true n (2 ^ 62) h
+literal_allowed (lit.Int (negsuc n)) h = ltb-true n (2 ^ 62) h
+literal_allowed (lit.Word n) h = let low : n < 2 ^ 32 = ltb-true n (2 ^ 32) h in omega (arith, low)
+literal_allowed (lit.Char c) h = ltb-true c 256 h
+literal_allowed (lit.Text t) h = h
 
 -- ---- items
 
-item_allowed : (i : SourceItem) (spelled : List ℕ) → Spells i spelled → allowed.Item (item_tree i)
-item_allowed (Print t) spelled h = (tt, (refl, tt, written_bytes t h.1.0 h.1.1))
-item_allowed (Bind x l) spelled h = (name_low x h.1, literal_allowed h.0 l h.2)
+target_allowed : (t : Target) → LawfulTarget t → allowed.Pat (target_tree t)
+target_allowed target.Wild h = tt
+target_allowed (target.Var x) h = is_lawful kind.Value x (may_be_named x h)
 
-front_allowed : (items : List SourceItem) (bytes rest : List ℕ) → Front items bytes rest → allowed.EachItem (items_tree items)
-front_allowed [] bytes rest h = tt
-front_allowed (i ∷ items) bytes rest h = (item_allowed i h.1 h.4, front_allowed items h.2 rest h.6)
+value_allowed : (v : Value) → LawfulValue v → allowed.Simple (value_tree v)
+value_allowed (value.Literal l) h = literal_allowed l h
+value_allowed (value.Printed s) h = (refl, tt, h)
+
+items_allowed : (items : List SourceItem) → LawfulItems items → allowed.EachItem (items_tree items)
+items_allowed [] h = tt
+items_allowed (i ∷ items) h = ((target_allowed i.target h.0.0, value_allowed i.value h.0.1), items_allowed items h.1)
 
 -- the unit of a program
-pub unit_allowed : (k : ℕ) (name bytes : List ℕ) (items : List SourceItem) → IsProgram bytes items → Allowed (unit_tree k (base_of name) items)
-unit_allowed k name bytes items h = ((unit_cap k name, front_allowed items bytes [] h), tt)
-
--- the same of items that are those of the program
-pub unit_allowed-same : (k : ℕ) (name bytes : List ℕ) (items program : List SourceItem) → items ≡ program → IsProgram bytes program → Allowed (unit_tree k (base_of name) items)
-unit_allowed-same k name bytes items program same h =
-    let P : List SourceItem → Type 0 = λ is. Allowed (unit_tree k (base_of name) is) in
-    subst P (sym same) (unit_allowed k name bytes program h)
+pub unit_allowed : (k : ℕ) (name : List ℕ) (items : List SourceItem) → LawfulItems items → Allowed (unit_tree k (base_of name) items)
+unit_allowed k name items h = ((unit_cap k name, items_allowed items h), tt)
 
 pub rt_allowed : Allowed rt_tree
 rt_allowed = ((refl, (((refl, refl, (tt, refl)), tt), ((refl, (refl, (refl, tt, refl))), tt))), tt)

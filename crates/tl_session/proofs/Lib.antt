@@ -1,4 +1,6 @@
 pub mod UnitNames
+pub mod LawfulItems
+pub mod ItemNames
 pub mod Typed
 pub mod Keeps
 pub mod Values
@@ -11,5 +13,7 @@ pub mod BuiltItems
 pub mod Lawful
 pub mod Reading
 pub mod Bases
+pub mod Forces
+pub mod SourceItems
 pub mod Translation
 pub mod SessionLemmas

@@ -44,7 +44,7 @@ other_part p x v e other = rw (same_part-bytes_eq p x, other)
 
 -- a home is a name, or a name in a structure
 abbrev pub Shaped : sml.Basis → Type 0
-Shaped basis = (x : List ℕ) (e : sml.Entry) → basis x ≡ Some e → (e.home ≡ x ∷ []) ⊎ ((m : List ℕ) × (e.home ≡ m ∷ x ∷ []))
+Shaped basis = (x : List ℕ) (e : sml.Entry) → basis x ≡ Some e → (e.home ≡ x ∷ []) ⊎ ((m w : List ℕ) × (e.home ≡ m ∷ w ∷ []))
 
 -- with a name of the probe
 abbrev pub with_probe : List ℕ → sml.Ty → sml.Basis → sml.Basis
@@ -59,7 +59,7 @@ homes_probe p t basis = λ i x. by (bytes_eq p x) x i where
 shaped_probe : (p : List ℕ) (t : sml.Ty) (basis : sml.Basis) → Shaped basis → Shaped (with_probe p t basis)
 shaped_probe p t basis shaped x e found = by (bytes_eq p x) refl found where
   by : (b : Bool) → bytes_eq p x ≡ b → (if b then Some (record { type = t; home = p ∷ [] }) else basis x) ≡ Some e
-      → (e.home ≡ x ∷ []) ⊎ ((m : List ℕ) × (e.home ≡ m ∷ x ∷ []))
+      → (e.home ≡ x ∷ []) ⊎ ((m w : List ℕ) × (e.home ≡ m ∷ w ∷ []))
   by true is found =
       let named : p ≡ x = (bytes_eq-Decides p x).0 is in
       let entry : record { type = t; home = p ∷ [] } ≡ e = cc in
@@ -81,9 +81,9 @@ related_probe p t v basis env tenv shaped has related x e found = by (bytes_eq p
   by false other found =
       let r : _ = related x e found in
       (r.0, rw other r.1, r.2, by_shape (shaped x e found) ∙ r.3) where
-        by_shape : (e.home ≡ x ∷ []) ⊎ ((m : List ℕ) × (e.home ≡ m ∷ x ∷ [])) → text.over (text.put (p ∷ []) (img v) text.empty) tenv e.home ≡ tenv e.home
+        by_shape : (e.home ≡ x ∷ []) ⊎ ((m w : List ℕ) × (e.home ≡ m ∷ w ∷ [])) → text.over (text.put (p ∷ []) (img v) text.empty) tenv e.home ≡ tenv e.home
         by_shape (inl h) = rw h (other_part p x (img v) tenv other)
-        by_shape (inr h) = rw h.1 (one_part p h.0 x (img v) tenv)
+        by_shape (inr h) = rw h.2 (one_part p h.0 h.1 (img v) tenv)
 
 probe_step : (n : ℕ) (basis : sml.Basis) (p : List ℕ) (e : Exp) (t : sml.Ty) (ds : List Dec) (env : Env) (c : Scope) (st : State) (s : prims.St)
     → (d : Does env c.env e (simple_tree (plain (homes_in basis) e)) t)

@@ -7,7 +7,7 @@ use Rattle.runs.specs.Env as text
 use Rattle.runs.specs.Items.{Scope, with_struct, inside, ev_items}
 use Rattle.runs.specs.Primitives as prims
 use Rattle.runs.specs.Meaning as mean
-use Rattle.item_source.specs.declared.item.SourceItem.{SourceItem}
+use Rattle.built_items.specs.declared.item.SourceItem.{SourceItem}
 use Rattle.tl_session.specs.Program.{Dec, dec_of, decs_of}
 use Rattle.tl_session.specs.Meaning.{Val, Prints, State, Env, then_do, run as run_decs, initial}
 use Rattle.tl_session.specs.Static as sml
@@ -22,14 +22,11 @@ use Rattle.tl_session.specs.Faithful.{texts_from}
 use Rattle.tl_session.proofs.Keeps.{HomesBefore, homes_more, initial_homes}
 use Rattle.tl_session.proofs.Values.{print_value, img, HasVal, Related}
 use Rattle.tl_session.proofs.Rows.{Ran, Shaped, probe_runs, run-append}
-use Rattle.tl_session.proofs.Units.{LeavesPrint, HasPrint, UnitRan, unit_runs, env_items, scope_items, related_unit, print_unit}
-
-abbrev pub AllLeavePrint : List (List SourceItem) → Type 0
-AllLeavePrint [] = Unit {0}
-AllLeavePrint (p ∷ ps) = LeavesPrint p × AllLeavePrint ps
+pub use Rattle.tl_session.proofs.ItemNames.{AllLeavePrint}
+use Rattle.tl_session.proofs.Units.{HasPrint, UnitRan, unit_runs, env_items, scope_items, related_unit, print_unit}
 
 shaped : (k : ℕ) (basis : sml.Basis) → HomesBefore k basis → Shaped basis
-shaped k basis homes x e is = let h : _ = homes x e is in inr (h.0, h.1)
+shaped k basis homes x e is = let h : _ = homes x e is in inr (h.0, h.1, h.2)
 
 -- one unit, and then what is after it
 unit_step : (n : ℕ) (u : List ℕ) (p : List SourceItem) (ds : List Dec) (rest : run.Items) (env : Env) (c : Scope) (st : State) (s : prims.St)
@@ -61,8 +58,8 @@ units_run n k (source ∷ ss) (p ∷ ps) ds basis env c st s same low leave home
     subst P (sym (append_assoc (map dec_of p) (decs_of ps) ds)) (unit_step n u p (decs_of ps ++ ds) _ env c st s r
     (units_run n (suc k) ss ps ds (sml.with_items u p basis) (env_items p env) (with_struct u (scope_items p (inside c)).own c) r.st_after r.s_after
     (omega arith) (omega arith) leave.1
-    (homes_more k (base_of source.name) p basis (omega arith) homes)
-    (related_unit u p basis env c (λ x e found. let w : _ = homes x e found in (w.0, w.1, w.2 k (base_of source.name) (omega arith) (omega arith))) related)
+    (homes_more k (base_of source.name) p basis (omega arith) homes leave.0)
+    (related_unit u p basis env c leave.0 (λ x e found. let w : _ = homes x e found in (w.0, w.1, w.2, w.3 k (base_of source.name) (omega arith) (omega arith))) related)
     (print_unit u p env c refl leave.0 h) r.same_output is))
 
 -- after Rt

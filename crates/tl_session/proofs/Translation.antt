@@ -1,13 +1,14 @@
 -- Accepted sources and their texts are a translation.
-use Rattle.std.proofs.Common.{◌≡◌, ℕ, zero, suc, ◌<◌, ◌≤◌, ◌^◌, ◌⊎◌, List, [], ◌∷◌, ◌++◌, length, take, drop, refl, sym, ◌∙◌, ap, subst, arith, inl, inr, append_assoc, append-nil}
+use Rattle.std.proofs.Common.{◌≡◌, ℕ, zero, suc, ◌+◌, ◌<◌, ◌≤◌, ◌^◌, ◌⊎◌, List, [], ◌∷◌, ◌++◌, length, take, drop, refl, sym, ◌∙◌, ap, subst, arith, inl, inr, append_assoc, append-nil}
 use Rattle.std.proofs.Math.Seq.{take-length}
 use Rattle.std.proofs.Common.{length-append}
 use Rattle.std.specs.List.{flat_map}
 use Rattle.std.proofs.lemmas.List.{take-append-drop}
 use Rattle.tl_text.specs.declared.code.Code.{Code}
 use Rattle.tl_text.specs.declared.place.Place.{Place}
-use Rattle.item_source.specs.declared.item.SourceItem.{SourceItem}
-use Rattle.item_source.specs.Source.{IsProgram}
+use Rattle.sml_derive.specs.Programs.{Derived}
+use Rattle.sml_fix.specs.Fixities.{Settings, start}
+use Rattle.built_items.specs.declared.item.SourceItem.{SourceItem}
 use Rattle.oc_layout.specs.Layout.{Layout}
 use Rattle.oc_rules.specs.Reads.{Reads}
 use Rattle.oc_rules.specs.Lexes.{Done}
@@ -21,35 +22,44 @@ use Rattle.tl_session.specs.OcTypes as oc
 use Rattle.tl_session.specs.Program.{Dec, decs_of}
 use Rattle.tl_session.specs.Refused.{Fails, Accepted}
 use Rattle.tl_session.specs.Runs.{Agrees}
-use Rattle.tl_session.specs.Faithful.{AreRead, texts_from, joined, whole, bytes_of, Faithful, Standing, with_source, IsTranslation}
+use Rattle.tl_session.specs.Faithful.{IsItems, AreRead, texts_from, joined, whole, bytes_of, Faithful, Standing, with_source, IsTranslation}
 use Rattle.tl_session.proofs.Typed.{items_env, units_env, whole_env, whole_types}
 use Rattle.tl_session.proofs.Keeps.{whole_kept}
 use Rattle.tl_session.proofs.Texts.{AllLeavePrint}
 use Rattle.tl_session.proofs.AgreesAll.{probe_agrees}
-use Rattle.tl_session.proofs.BuiltItems.{front_leaves}
+use Rattle.tl_session.proofs.LawfulItems.{LawfulItems}
+use Rattle.tl_session.proofs.BuiltItems.{front_leaves, items_lawful}
+use Rattle.tl_session.proofs.Forces.{read_force}
+use Rattle.tl_session.specs.Sessions.{AreInForce}
 
 -- sources that are accepted, with their programs
 pub record Given (ss : List Source) (ps : List (List SourceItem)) : Type 0 where
   pub same : length ps ≡ length ss
   pub low : suc (length ss) < 2 ^ 64
   pub accepted : Accepted ss
-  pub read : AreRead ss ps
+  pub left : Settings
+  pub read : AreRead 1 start ss ps left
 
-leave_print : (ss : List Source) (ps : List (List SourceItem)) → AreRead ss ps → AllLeavePrint ps
-leave_print [] [] h = tt
-leave_print [] (p ∷ ps) h = absurd h
-leave_print (s ∷ ss) [] h = absurd h
-leave_print (s ∷ ss) (p ∷ ps) h = (front_leaves p s.bytes [] h.0, leave_print ss ps h.1)
+-- what a source is built to is lawful
+pub is_lawful : (k : ℕ) (fix left : Settings) (bytes : List ℕ) (p : List SourceItem) → IsItems k fix bytes p left → LawfulItems p
+is_lawful k fix left bytes p is = items_lawful (Derived is.program) p is.built
 
-units_read : (k : ℕ) (ss : List Source) (ps : List (List SourceItem)) → AreRead ss ps → Reads (flat_map Layout (texts_from k ss ps)) (joined (texts_from k ss ps))
-units_read k [] ps h = (tt, Done [] [] refl refl)
-units_read k (s ∷ ss) [] h = absurd h
-units_read k (s ∷ ss) (p ∷ ps) h =
+leave_print : (k : ℕ) (fix left : Settings) (ss : List Source) (ps : List (List SourceItem)) → AreRead k fix ss ps left → AllLeavePrint ps
+leave_print k fix left [] [] h = tt
+leave_print k fix left [] (p ∷ ps) h = absurd h
+leave_print k fix left (s ∷ ss) [] h = absurd h
+leave_print k fix left (s ∷ ss) (p ∷ ps) h = (front_leaves p (is_lawful k fix h.0 s.bytes p h.1), leave_print (suc k) h.0 left ss ps h.2)
+
+units_read : (k : ℕ) (fix left : Settings) (ss : List Source) (ps : List (List SourceItem)) → AreRead k fix ss ps left
+    → Reads (flat_map Layout (texts_from k ss ps)) (joined (texts_from k ss ps))
+units_read k fix left [] ps h = (tt, Done [] [] refl refl)
+units_read k fix left (s ∷ ss) [] h = absurd h
+units_read k fix left (s ∷ ss) (p ∷ ps) h =
     reads_joined (unit_tree k (base_of s.name) p) (joined (texts_from (suc k) ss ps)) (flat_map Layout (texts_from (suc k) ss ps))
-    (unit_allowed k s.name s.bytes p h.0) (units_read (suc k) ss ps h.1)
+    (unit_allowed k s.name p (is_lawful k fix h.0 s.bytes p h.1)) (units_read (suc k) h.0 left ss ps h.2)
 
-whole_read : (ss : List Source) (ps : List (List SourceItem)) → AreRead ss ps → Reads (bytes_of (texts_from 1 ss ps)) (whole (texts_from 1 ss ps))
-whole_read ss ps h = reads_joined rt_tree (joined (texts_from 1 ss ps)) (flat_map Layout (texts_from 1 ss ps)) rt_allowed (units_read 1 ss ps h)
+whole_read : (left : Settings) (ss : List Source) (ps : List (List SourceItem)) → AreRead 1 start ss ps left → Reads (bytes_of (texts_from 1 ss ps)) (whole (texts_from 1 ss ps))
+whole_read left ss ps h = reads_joined rt_tree (joined (texts_from 1 ss ps)) (flat_map Layout (texts_from 1 ss ps)) rt_allowed (units_read 1 start left ss ps h)
 
 join-none : (a : PItems) → join a NoItems ≡ a
 join-none NoItems = refl
@@ -58,14 +68,15 @@ join-none (MoreItems i rest) = ap (MoreItems i) (join-none rest)
 -- the whole of accepted sources is faithful
 pub all_faithful : (ss : List Source) (ps : List (List SourceItem)) → Given ss ps → Faithful ss ps (texts_from 1 ss ps) (whole_env ss ps)
 all_faithful ss ps g =
-    let leave : AllLeavePrint ps = leave_print ss ps g.read in
+    let leave : AllLeavePrint ps = leave_print 1 start g.left ss ps g.read in
     record {
       accepted = g.accepted;
+      left = g.left;
       read = g.read;
-      reads = whole_read ss ps g.read;
-      alone = λ other r. one_text (bytes_of (texts_from 1 ss ps)) other (whole (texts_from 1 ss ps)) r (whole_read ss ps g.read);
+      reads = whole_read g.left ss ps g.read;
+      alone = λ other r. one_text (bytes_of (texts_from 1 ss ps)) other (whole (texts_from 1 ss ps)) r (whole_read g.left ss ps g.read);
       types = whole_types ss ps g.low;
-      kept = whole_kept ss ps g.low;
+      kept = whole_kept ss ps g.low leave;
       agrees =
           (let P : List Dec → Type 0 = λ ds. Agrees ds (whole (texts_from 1 ss ps)) in
           let Q : PItems → Type 0 = λ t. Agrees (decs_of ps ++ []) t in
@@ -73,25 +84,30 @@ all_faithful ss ps g =
       probed = λ probe is. probe_agrees ss ps probe g.same g.low leave is;
     }
 
-read_take : (i : ℕ) (ss : List Source) (ps : List (List SourceItem)) → AreRead ss ps → AreRead (take i ss) (take i ps)
-read_take zero ss ps h = tt
-read_take (suc i) [] [] h = tt
-read_take (suc i) [] (p ∷ ps) h = absurd h
-read_take (suc i) (s ∷ ss) [] h = absurd h
-read_take (suc i) (s ∷ ss) (p ∷ ps) h = (h.0, read_take i ss ps h.1)
+-- the first sources are their items, and leave some fixities
+read_take : (i k : ℕ) (fix left : Settings) (ss : List Source) (ps : List (List SourceItem)) → AreRead k fix ss ps left
+    → (mid : Settings) × AreRead k fix (take i ss) (take i ps) mid
+read_take zero k fix left ss ps h = (fix, refl)
+read_take (suc i) k fix left [] [] h = (left, h)
+read_take (suc i) k fix left [] (p ∷ ps) h = absurd h
+read_take (suc i) k fix left (s ∷ ss) [] h = absurd h
+read_take (suc i) k fix left (s ∷ ss) (p ∷ ps) h =
+    let r : (mid : Settings) × AreRead (suc k) h.0 (take i ss) (take i ps) mid = read_take i (suc k) h.0 left ss ps h.2 in
+    (r.0, (h.0, h.1, r.1))
 
-texts_take : (i k : ℕ) (ss : List Source) (ps : List (List SourceItem)) → AreRead ss ps → take i (texts_from k ss ps) ≡ texts_from k (take i ss) (take i ps)
-texts_take zero k ss ps h = refl
-texts_take (suc i) k [] [] h = refl
-texts_take (suc i) k [] (p ∷ ps) h = absurd h
-texts_take (suc i) k (s ∷ ss) [] h = absurd h
-texts_take (suc i) k (s ∷ ss) (p ∷ ps) h = ap (λ ts. unit_tree k (base_of s.name) p ∷ ts) (texts_take i (suc k) ss ps h.1)
+texts_take : (i k : ℕ) (fix left : Settings) (ss : List Source) (ps : List (List SourceItem)) → AreRead k fix ss ps left
+    → take i (texts_from k ss ps) ≡ texts_from k (take i ss) (take i ps)
+texts_take zero k fix left ss ps h = refl
+texts_take (suc i) k fix left [] [] h = refl
+texts_take (suc i) k fix left [] (p ∷ ps) h = absurd h
+texts_take (suc i) k fix left (s ∷ ss) [] h = absurd h
+texts_take (suc i) k fix left (s ∷ ss) (p ∷ ps) h = ap (λ ts. unit_tree k (base_of s.name) p ∷ ts) (texts_take i (suc k) h.0 left ss ps h.2)
 
-same_read : (ss : List Source) (ps : List (List SourceItem)) → AreRead ss ps → length ps ≡ length ss
-same_read [] [] h = refl
-same_read [] (p ∷ ps) h = absurd h
-same_read (s ∷ ss) [] h = absurd h
-same_read (s ∷ ss) (p ∷ ps) h = ap suc (same_read ss ps h.1)
+same_read : (k : ℕ) (fix left : Settings) (ss : List Source) (ps : List (List SourceItem)) → AreRead k fix ss ps left → length ps ≡ length ss
+same_read k fix left [] [] h = refl
+same_read k fix left [] (p ∷ ps) h = absurd h
+same_read k fix left (s ∷ ss) [] h = absurd h
+same_read k fix left (s ∷ ss) (p ∷ ps) h = ap suc (same_read (suc k) h.0 left ss ps h.2)
 
 accepted_take : (i : ℕ) (ss : List Source) → Accepted ss → Accepted (take i ss)
 accepted_take i ss accepted before after source place c is fails =
@@ -104,20 +120,24 @@ length_take_le (suc i) [] = omega arith
 length_take_le (suc i) (s ∷ ss) = omega (arith, length_take_le i ss)
 
 given_take : (i : ℕ) (ss : List Source) (ps : List (List SourceItem)) → Given ss ps → Given (take i ss) (take i ps)
-given_take i ss ps g = record {
-  same = same_read (take i ss) (take i ps) (read_take i ss ps g.read);
-  low = omega (arith, length_take_le i ss, g.low);
-  accepted = accepted_take i ss g.accepted;
-  read = read_take i ss ps g.read;
-}
+given_take i ss ps g =
+    let r : (mid : Settings) × AreRead 1 start (take i ss) (take i ps) mid = read_take i 1 start g.left ss ps g.read in
+    record {
+      same = same_read 1 start r.0 (take i ss) (take i ps) r.1;
+      low = omega (arith, length_take_le i ss, g.low);
+      accepted = accepted_take i ss g.accepted;
+      left = r.0;
+      read = r.1;
+    }
 
 -- what one unit more binds
-units_grow : (i k : ℕ) (ss : List Source) (ps : List (List SourceItem)) (base : oc.Env) → AreRead ss ps → i < length ss
+units_grow : (i k : ℕ) (fix left : Settings) (ss : List Source) (ps : List (List SourceItem)) (base : oc.Env) → AreRead k fix ss ps left → i < length ss
     → (d : oc.Env) × (units_env k (take (suc i) ss) (take (suc i) ps) base ≡ oc.over d (units_env k (take i ss) (take i ps) base))
-units_grow i k [] ps base h low = absurd (omega arith)
-units_grow i k (s ∷ ss) [] base h low = absurd h
-units_grow zero k (s ∷ ss) (p ∷ ps) base h low = (oc.AddMod (unit_of k s) (items_env p oc.Empty) oc.Empty, refl)
-units_grow (suc i) k (s ∷ ss) (p ∷ ps) base h low = units_grow i (suc k) ss ps (oc.AddMod (unit_of k s) (items_env p oc.Empty) base) h.1 (omega arith)
+units_grow i k fix left [] ps base h low = absurd (omega arith)
+units_grow i k fix left (s ∷ ss) [] base h low = absurd h
+units_grow zero k fix left (s ∷ ss) (p ∷ ps) base h low = (oc.AddMod (unit_of k s) (items_env p oc.Empty) oc.Empty, refl)
+units_grow (suc i) k fix left (s ∷ ss) (p ∷ ps) base h low =
+    units_grow i (suc k) h.0 left ss ps (oc.AddMod (unit_of k s) (items_env p oc.Empty) base) h.2 (omega arith)
 
 -- accepted sources and their texts are a translation
 pub is_translation : (ss : List Source) (ps : List (List SourceItem)) → Given ss ps → IsTranslation (record { sources = ss; programs = ps })
@@ -126,8 +146,8 @@ is_translation ss ps g = record {
   envs = λ i. whole_env (take i ss) (take i ps);
   faithful = λ i low.
       let P : List PItems → Type 0 = λ ts. Faithful (take i ss) (take i ps) ts (whole_env (take i ss) (take i ps)) in
-      subst P (sym (texts_take i 1 ss ps g.read)) (all_faithful (take i ss) (take i ps) (given_take i ss ps g));
-  grows = λ i low. units_grow i 1 ss ps _ g.read low;
+      subst P (sym (texts_take i 1 start g.left ss ps g.read)) (all_faithful (take i ss) (take i ps) (given_take i ss ps g));
+  grows = λ i low. units_grow i 1 start g.left ss ps _ g.read low;
 }
 
 -- what a translation tells of its sources
@@ -137,11 +157,12 @@ translation_given s low t =
     let all_sources : take (length s.sources) s.sources ≡ s.sources = take-length s.sources in
     let all_programs : take (length s.sources) s.programs ≡ s.programs = ap (λ n. take n s.programs) (sym t.each_program) ∙ take-length s.programs in
     let P : List Source → Type 0 = λ l. Accepted l in
-    let Q : List Source → List (List SourceItem) → Type 0 = λ l m. AreRead l m in
+    let Q : List Source → List (List SourceItem) → Type 0 = λ l m. AreRead 1 start l m f.left in
     record {
       same = t.each_program;
       low = low;
       accepted = subst P all_sources f.accepted;
+      left = f.left;
       read = subst (Q s.sources) all_programs (let R : List Source → Type 0 = λ l. Q l (take (length s.sources) s.programs) in subst R all_sources f.read);
     }
 
@@ -176,22 +197,35 @@ accepted_more ss s accepted passes before after source place c is fails = by (la
       passes place c (subst P (sym p.0) (subst Q (sym p.1) fails))
   by (inr q) = accepted before q.0 source place c q.1 fails
 
-read_more : (ss : List Source) (ps : List (List SourceItem)) (s : Source) (p : List SourceItem) → AreRead ss ps → IsProgram s.bytes p → AreRead (ss ++ s ∷ []) (ps ++ p ∷ [])
-read_more [] [] s p h is = (is, tt)
-read_more [] (q ∷ ps) s p h is = absurd h
-read_more (t ∷ ss) [] s p h is = absurd h
-read_more (t ∷ ss) (q ∷ ps) s p h is = (h.0, read_more ss ps s p h.1 is)
+-- items of another number, under other fixities
+items_at : (k n : ℕ) (fix mid : Settings) (bytes : List ℕ) (p : List SourceItem) (left : Settings) → n ≡ k → mid ≡ fix → IsItems n mid bytes p left → IsItems k fix bytes p left
+items_at k n fix mid bytes p left same_number same_fix is =
+    subst (λ m. IsItems m fix bytes p left) same_number (subst (λ f. IsItems n f bytes p left) same_fix is)
+
+read_more : (k n : ℕ) (fix mid left : Settings) (ss : List Source) (ps : List (List SourceItem)) (s : Source) (p : List SourceItem) → n ≡ k + length ss
+    → AreRead k fix ss ps mid → IsItems n mid s.bytes p left → AreRead k fix (ss ++ s ∷ []) (ps ++ p ∷ []) left
+read_more k n fix mid left [] [] s p number h is = (left, items_at k n fix mid s.bytes p left (omega arith) h is, refl)
+read_more k n fix mid left [] (q ∷ ps) s p number h is = absurd h
+read_more k n fix mid left (t ∷ ss) [] s p number h is = absurd h
+read_more k n fix mid left (t ∷ ss) (q ∷ ps) s p number h is = (h.0, h.1, read_more (suc k) n h.0 mid left ss ps s p (omega arith) h.2 is)
 
 -- a translation goes on with each source that does not fail
-pub translation_more : (st : Standing) (s : Source) (p : List SourceItem) → length st.sources < 65536 → IsTranslation st
-    → ((place : Place) (c : Code) → Fails st.sources s place c → ⊥) → IsProgram s.bytes p → IsTranslation (with_source st s p)
-translation_more st s p low t passes is =
+pub translation_more : (st : Standing) (s : Source) (p : List SourceItem) (fix left : Settings) → length st.sources < 65536 → IsTranslation st
+    → ((place : Place) (c : Code) → Fails st.sources s place c → ⊥) → AreInForce st.sources fix → IsItems (suc (length st.sources)) fix s.bytes p left
+    → IsTranslation (with_source st s p)
+translation_more st s p fix left low t passes in_force is =
     let g : Given st.sources st.programs = translation_given st (omega arith) t in
+    let same_fix : g.left ≡ fix = in_force.only g.left (read_force 1 start g.left st.sources st.programs g.read) in
+    let n : ℕ = suc (length st.sources) in
+    let r : AreRead 1 start (st.sources ++ s ∷ []) (st.programs ++ p ∷ []) left =
+    read_more 1 n start g.left left st.sources st.programs s p (omega arith) g.read (items_at n n g.left fix s.bytes p left refl (sym same_fix) is)
+    in
     is_translation (st.sources ++ s ∷ []) (st.programs ++ p ∷ []) (record {
-      same = same_read (st.sources ++ s ∷ []) (st.programs ++ p ∷ []) (read_more st.sources st.programs s p g.read is);
+      same = same_read 1 start left (st.sources ++ s ∷ []) (st.programs ++ p ∷ []) r;
       low = omega (arith, length-append st.sources (s ∷ []));
       accepted = accepted_more st.sources s g.accepted passes;
-      read = read_more st.sources st.programs s p g.read is;
+      left = left;
+      read = r;
     })
 
 -- no sources are a translation
@@ -200,7 +234,8 @@ translation_none = is_translation [] [] (record {
   same = refl;
   low = omega arith;
   accepted = none;
-  read = tt;
+  left = start;
+  read = refl;
 }) where
   none : Accepted []
   none before after source place c is fails =

@@ -1,24 +1,33 @@
 -- The written text types, and what it binds.
-use Rattle.std.proofs.Common.{◌≡◌, ℕ, suc, ◌+◌, ◌<◌, ◌^◌, List, [], ◌∷◌, length, Option, Some, true, false, refl, sym, ◌∙◌, ap, arith, subst, inl, inr}
+use Rattle.std.proofs.Common.{◌≡◌, ℕ, suc, ◌+◌, ◌<◌, ◌^◌, List, [], ◌∷◌, length, Option, Some, true, false, refl, sym, ◌∙◌, ap, arith, subst, ◌⊎◌, inl, inr}
 use Rattle.std.specs.Prelude.{codes}
 use Rattle.std.proofs.lemmas.Slice.Eq.{bytes_eq-Decides}
-use Rattle.item_source.specs.declared.item.SourceItem.{SourceItem}
-use Rattle.item_source.specs.declared.item.SourceItem.TheVariants.{Print, Bind}
+use Rattle.oc_names.specs.Mangled.{mangled}
+use Rattle.oc_names.specs.declared.names.NameKind.TheVariants as kind
+use Rattle.built_items.specs.declared.item.SourceItem.{SourceItem}
+use Rattle.built_items.specs.declared.item.Target.{Target}
+use Rattle.built_items.specs.declared.item.Target.TheVariants as target
+use Rattle.built_items.specs.declared.item.Value.{Value}
+use Rattle.built_items.specs.declared.item.Value.TheVariants as value
 use Rattle.tl_session.specs.Static as sml
 use Rattle.tl_session.specs.Kept.{Source, unit_of, image}
-use Rattle.tl_session.specs.OcTypes.{Ty, Arrow, int, string, unit, Env, Empty, AddVal, AddType, AddMod, val_at, over, HasInstance, LiteralHas, ItemsBind, ModuleNotIn, predefined, OcText, inst}
-use Rattle.oc_ast.specs.Plain.{NoItems, MoreItems}
-use Rattle.tl_session.specs.Written.{word_item, print_item, items_tree, literal_of, base_of, unit_name}
+use Rattle.tl_session.specs.OcTypes.{Ty, Arrow, int, string, unit, Env, Empty, AddVal, AddType, AddMod, val_at, over, HasInstance, LiteralHas, IsNonExpansive, IsClosed, AtFresh, SimpleHas, PatBinds, ItemBinds, ItemsBind, ModuleNotIn, predefined, OcText, inst}
+use Rattle.oc_ast.specs.Plain.{Let, PItems, NoItems, MoreItems}
+use Rattle.tl_session.specs.Written.{word_item, print_item, items_tree, target_tree, value_tree, literal_of, base_of, unit_name}
 use Rattle.tl_session.specs.Faithful.{texts_from, joined, whole}
 use Rattle.tl_session.proofs.UnitNames.{unit_number}
 use Rattle.tl_text.specs.declared.lit.Lit.{Lit}
 use Rattle.tl_text.specs.declared.lit.Lit.TheVariants as lit
 
+-- what a target of this type binds over base
+abbrev pub target_env : Target → sml.Ty → Env → Env
+target_env target.Wild t base = base
+target_env (target.Var x) t base = AddVal (mangled kind.Value x) (image t) base
+
 -- what the items of a unit bind over base
 abbrev pub items_env : List SourceItem → Env → Env
 items_env [] base = base
-items_env (Print t ∷ items) base = items_env items base
-items_env (Bind x l ∷ items) base = items_env items (AddVal x (image (sml.type_of l)) base)
+items_env (i ∷ items) base = items_env items (target_env i.target (sml.value_type i.value) base)
 
 -- what the units bind over base
 abbrev pub units_env : ℕ → List Source → List (List SourceItem) → Env → Env
@@ -37,12 +46,17 @@ over-over (AddVal y u a) b c = ap (AddVal y u) (over-over a b c)
 over-over (AddType y u a) b c = ap (AddType y u) (over-over a b c)
 over-over (AddMod y d a) b c = ap (AddMod y d) (over-over a b c)
 
+target_env-over : (t : Target) (u : sml.Ty) (base : Env) → target_env t u base ≡ over (target_env t u Empty) base
+target_env-over target.Wild u base = refl
+target_env-over (target.Var x) u base = refl
+
 items_env-over : (is : List SourceItem) (base : Env) → items_env is base ≡ over (items_env is Empty) base
 items_env-over [] base = refl
-items_env-over (Print t ∷ is) base = items_env-over is base
-items_env-over (Bind x l ∷ is) base =
-    let v : Env → Env = AddVal x (image (sml.type_of l)) in
-    items_env-over is (v base) ∙ sym (ap (λ e. over e base) (items_env-over is (v Empty)) ∙ over-over (items_env is Empty) (v Empty) base)
+items_env-over (i ∷ is) base =
+    let v : Env → Env = target_env i.target (sml.value_type i.value) in
+    items_env-over is (v base)
+    ∙ (ap (over (items_env is Empty)) (target_env-over i.target (sml.value_type i.value) base)
+    ∙ sym (ap (λ e. over e base) (items_env-over is (v Empty)) ∙ over-over (items_env is Empty) (v Empty) base))
 
 pub units_env-over : (k : ℕ) (ss : List Source) (ps : List (List SourceItem)) (base : Env) → units_env k ss ps base ≡ over (units_env k ss ps Empty) base
 units_env-over k [] ps base = refl
@@ -71,23 +85,34 @@ literal_inst us (lit.Word n) = refl
 literal_inst us (lit.Char c) = refl
 literal_inst us (lit.Text t) = refl
 
+-- a literal generalises, and what print gives has no variable
+may_stand : (v : Value) → IsNonExpansive (value_tree v) ⊎ IsClosed (image (sml.value_type v))
+may_stand (value.Literal l) = inl tt
+may_stand (value.Printed s) = inr tt
+
+value_has : (g : Env) (v : Value) → val_at print_path g ≡ Some (Arrow string unit) → AtFresh (λ us. SimpleHas g (value_tree v) (inst us (image (sml.value_type v))))
+value_has g (value.Literal l) h = (0, λ v one low. let P : Ty → Type 0 = λ t. LiteralHas (literal_of l) t in subst P (sym (literal_inst _ l)) (literal_has l))
+value_has g (value.Printed s) h = (0, λ v one low. (string, has_print g h, refl))
+
+target_binds : (t : Target) (u : sml.Ty) → PatBinds (target_tree t) (image u) (target_env t u Empty)
+target_binds target.Wild u = refl
+target_binds (target.Var x) u = refl
+
+-- an item types where print is at its path, and leaves it there
+item_binds : (g : Env) (i : SourceItem) (rest : PItems) → val_at print_path g ≡ Some (Arrow string unit)
+    → ItemBinds g (Let (target_tree i.target) (value_tree i.value)) rest (target_env i.target (sml.value_type i.value) Empty)
+item_binds g i rest h = (image (sml.value_type i.value), may_stand i.value, value_has g i.value h, target_binds i.target (sml.value_type i.value))
+
+print_stays : (g : Env) (t : Target) (u : sml.Ty) → val_at print_path g ≡ Some (Arrow string unit) → val_at print_path (over (target_env t u Empty) g) ≡ Some (Arrow string unit)
+print_stays g target.Wild u h = h
+print_stays g (target.Var x) u h = h
+
 -- the items of a unit type where print is at its path
 items_bind : (g : Env) (is : List SourceItem) → val_at print_path g ≡ Some (Arrow string unit) → ItemsBind g (items_tree is) (items_env is Empty)
 items_bind g [] h = refl
-items_bind g (Print t ∷ is) h =
-    (Empty, (unit, inr tt, (0, λ v one low. (string, has_print g h, refl)), refl), items_env is Empty, items_bind g is h, sym (over-empty (items_env is Empty)))
-items_bind g (Bind x l ∷ is) h = (
-  AddVal x (image (sml.type_of l)) Empty,
-  (
-    image (sml.type_of l),
-    inl tt,
-    (0, λ v one low. let P : Ty → Type 0 = λ t. LiteralHas (literal_of l) t in subst P (sym (literal_inst _ l)) (literal_has l)),
-    refl,
-  ),
-  items_env is Empty,
-  items_bind (AddVal x (image (sml.type_of l)) g) is h,
-  items_env-over is (AddVal x (image (sml.type_of l)) Empty),
-)
+items_bind g (i ∷ is) h =
+    let own : Env = target_env i.target (sml.value_type i.value) Empty in
+    (own, item_binds g i (items_tree is) h, items_env is Empty, items_bind (over own g) is (print_stays g i.target (sml.value_type i.value) h), items_env-over is own)
 
 -- no module of the texts from number k on has the name of a unit with a smaller number, or of Rt
 unit_not_in : (j k : ℕ) (b : List ℕ) (ss : List Source) (ps : List (List SourceItem)) → j < k → k + length ss < 2 ^ 64

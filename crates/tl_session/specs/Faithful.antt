@@ -1,8 +1,12 @@
 -- What a translation is: unit by unit, the text so far reads, types, keeps the interface and agrees with the sources so far.
 use Rattle.std.specs.Prelude.{◌≡◌, ℕ, suc, ◌≤◌, ◌<◌, List, [], ◌∷◌, ◌++◌, length, take}
 use Rattle.std.specs.List.{flat_map}
-use Rattle.item_source.specs.declared.item.SourceItem.{SourceItem}
-use Rattle.item_source.specs.Source.{IsProgram}
+use Rattle.built_items.specs.declared.item.SourceItem.{SourceItem}
+use Rattle.built_items.specs.Built.{AreItems}
+use Rattle.sml_ast.specs.declared.program.Program.{Program}
+use Rattle.sml_fix.specs.Fixities.{Settings, start}
+use Rattle.sml_derive.specs.Programs.{Derived}
+use Rattle.sml_front.specs.Sources.{IsSourceUnder}
 use Rattle.tl_session.specs.Kept.{Source, Kept, basis_after}
 use Rattle.oc_layout.specs.Layout.{Layout}
 use Rattle.tl_session.specs.OcTypes as oc
@@ -14,11 +18,18 @@ use Rattle.tl_session.specs.Runs.{Agrees}
 use Rattle.oc_ast.specs.Plain.{PItems, NoItems}
 use Rattle.tl_session.specs.Written.{rt_tree, base_of, unit_tree, join}
 
--- each source is its program, one by one
-abbrev pub AreRead : List Source → List (List SourceItem) → Type 0
-AreRead [] [] = Unit {0}
-AreRead (source ∷ sources) (program ∷ programs) = IsProgram source.bytes program × AreRead sources programs
-AreRead _ _ = ⊥
+-- the source of this number is these items under the fixities before it, and leaves those
+pub record IsItems (number : ℕ) (fix : Settings) (bytes : List ℕ) (items : List SourceItem) (left : Settings) : Type 0 where
+  pub program : Program
+  pub source : IsSourceUnder number fix bytes program left
+  pub built : AreItems (Derived program) items
+
+-- each source is its items, one by one, where the first has the number k and these fixities are before it; they leave those
+abbrev pub AreRead : ℕ → Settings → List Source → List (List SourceItem) → Settings → Type 0
+AreRead k fix [] [] left = left ≡ fix
+AreRead k fix (source ∷ sources) (program ∷ programs) left =
+    (next : Settings) × IsItems k fix source.bytes program next × AreRead (suc k) next sources programs left
+AreRead _ _ _ _ _ = ⊥
 
 -- the texts of sources with these programs, from number k on
 abbrev pub texts_from : ℕ → List Source → List (List SourceItem) → List PItems
@@ -48,7 +59,8 @@ Probed sources programs text =
 pub record Faithful (sources : List Source) (programs : List (List SourceItem)) (texts : List PItems) (env : oc.Env) : Type 0 where
   -- the sources are accepted, and are these programs
   pub accepted : Accepted sources
-  pub read : AreRead sources programs
+  pub left : Settings
+  pub read : AreRead 1 start sources programs left
   -- the bytes are the text
   pub reads : Reads (bytes_of texts) (whole texts)
   -- and no other one

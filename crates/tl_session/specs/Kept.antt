@@ -1,6 +1,6 @@
 -- The interface of sources in the environment of their text.
 use Rattle.std.specs.Prelude.{◌≡◌, ℕ, suc, List, ◌∷◌, Some}
-use Rattle.item_source.specs.declared.item.SourceItem.{SourceItem}
+use Rattle.built_items.specs.declared.item.SourceItem.{SourceItem}
 use Rattle.tl_session.specs.Static as sml
 use Rattle.tl_session.specs.OcTypes as oc
 use Rattle.tl_session.specs.Written.{base_of, unit_name}

@@ -10,3 +10,4 @@ pub mod Runs
 pub mod Faithful
 pub mod Answers
 pub mod Sessions
+pub mod LawfulItems

@@ -3,8 +3,11 @@ use Rattle.std.specs.Prelude.{ℕ, List, map, codes}
 use Rattle.std.specs.List.{flat_map}
 use Rattle.tl_text.specs.declared.lit.Lit.{Lit}
 use Rattle.tl_text.specs.declared.lit.Lit.TheVariants.{Text}
-use Rattle.item_source.specs.declared.item.SourceItem.{SourceItem}
-use Rattle.item_source.specs.declared.item.SourceItem.TheVariants.{Print, Bind}
+use Rattle.built_items.specs.declared.item.SourceItem.{SourceItem}
+use Rattle.built_items.specs.declared.item.Target.{Target}
+use Rattle.built_items.specs.declared.item.Target.TheVariants as target
+use Rattle.built_items.specs.declared.item.Value.{Value}
+use Rattle.built_items.specs.declared.item.Value.TheVariants as value
 
 mutual
   pub data Exp : Type 0 where
@@ -34,10 +37,19 @@ pub record Dec : Type 0 where
   pub pat : Pat
   pub exp : Exp
 
+-- the pattern of a target
+abbrev pub pat_of : Target → Pat
+pat_of target.Wild = Wild
+pat_of (target.Var x) = Var x
+
+-- a literal, or print "s"
+abbrev pub exp_of : Value → Exp
+exp_of (value.Literal l) = Scon l
+exp_of (value.Printed text) = App (Id (codes "print")) (Scon (Text text))
+
 -- the declaration of an item
 abbrev pub dec_of : SourceItem → Dec
-dec_of (Print text) = record { pat = Wild; exp = App (Id (codes "print")) (Scon (Text text)) }
-dec_of (Bind name literal) = record { pat = Var name; exp = Scon literal }
+dec_of item = record { pat = pat_of item.target; exp = exp_of item.value }
 
 -- the declarations of programs, one row
 abbrev pub decs_of : List (List SourceItem) → List Dec

@@ -3,8 +3,13 @@ use Rattle.std.specs.Prelude.{◌≡◌, ℕ, List, [], ◌∷◌, Option, Some,
 use Rattle.std.specs.Str.{bytes_eq}
 use Rattle.tl_text.specs.declared.lit.Lit.{Lit}
 use Rattle.tl_text.specs.declared.lit.Lit.TheVariants as lit
-use Rattle.item_source.specs.declared.item.SourceItem.{SourceItem}
-use Rattle.item_source.specs.declared.item.SourceItem.TheVariants as item
+use Rattle.built_items.specs.declared.item.SourceItem.{SourceItem}
+use Rattle.built_items.specs.declared.item.Target.{Target}
+use Rattle.built_items.specs.declared.item.Target.TheVariants as target
+use Rattle.built_items.specs.declared.item.Value.{Value}
+use Rattle.built_items.specs.declared.item.Value.TheVariants as value
+use Rattle.oc_names.specs.Mangled.{mangled}
+use Rattle.oc_names.specs.declared.names.NameKind.TheVariants as kind
 use Rattle.tl_session.specs.Program.{Exp, Scon, Id, App, Record, Row, Exps, NoExps, MoreExps}
 
 mutual
@@ -51,10 +56,19 @@ print_entry = record { type = Arrow String unit; home = codes "Rt" ∷ codes "pr
 abbrev pub initial : Basis
 initial = bound (codes "print") print_entry (λ y. None)
 
+-- the type of a value
+abbrev pub value_type : Value → Ty
+value_type (value.Literal l) = type_of l
+value_type (value.Printed text) = unit
+
+-- a target of this type in the unit of this name; a variable is at home under its written name
+abbrev pub with_target : List ℕ → Target → Ty → Basis → Basis
+with_target unit_name target.Wild t basis = basis
+with_target unit_name (target.Var x) t basis = bound x (record { type = t; home = unit_name ∷ mangled kind.Value x ∷ [] }) basis
+
 -- an item of the unit of this name
 abbrev pub with_item : List ℕ → SourceItem → Basis → Basis
-with_item unit_name (item.Print text) basis = basis
-with_item unit_name (item.Bind x literal) basis = bound x (record { type = type_of literal; home = unit_name ∷ x ∷ [] }) basis
+with_item unit_name item basis = with_target unit_name item.target (value_type item.value) basis
 
 abbrev pub with_items : List ℕ → List SourceItem → Basis → Basis
 with_items unit_name [] basis = basis

@@ -5,12 +5,17 @@ use Rattle.std.specs.List.{list_any}
 use Rattle.std.specs.Fmt.{decimal}
 use Rattle.tl_text.specs.declared.lit.Lit.{Lit}
 use Rattle.tl_text.specs.declared.lit.Lit.TheVariants as lit
-use Rattle.item_source.specs.declared.item.SourceItem.{SourceItem}
-use Rattle.item_source.specs.declared.item.SourceItem.TheVariants.{Print, Bind}
+use Rattle.built_items.specs.declared.item.SourceItem.{SourceItem}
+use Rattle.built_items.specs.declared.item.Target.{Target}
+use Rattle.built_items.specs.declared.item.Target.TheVariants as target
+use Rattle.built_items.specs.declared.item.Value.{Value}
+use Rattle.built_items.specs.declared.item.Value.TheVariants as value
+use Rattle.oc_names.specs.Mangled.{mangled}
+use Rattle.oc_names.specs.declared.names.NameKind.TheVariants as kind
 use Rattle.oc_ast.specs.declared.literal.OcLit.{OcLit}
 use Rattle.oc_ast.specs.declared.literal.OcLit.TheVariants as oc
 use Rattle.oc_ast.specs.View.{row_of_items}
-use Rattle.oc_ast.specs.Plain.{TAt, TCon, NoTys, Alias, Any, PVar, PAt, Const, Val, Is, One, Call, Fun, PItem, Let, Types, Module, Struct, PItems, NoItems, MoreItems}
+use Rattle.oc_ast.specs.Plain.{TAt, TCon, NoTys, Alias, Any, PVar, PAt, Const, Val, PPat, Is, PSimple, One, Call, Fun, PItem, Let, Types, Module, Struct, PItems, NoItems, MoreItems}
 
 -- what follows the last slash of a name, or the whole name
 abbrev pub after_slash : List ℕ → List ℕ
@@ -41,10 +46,19 @@ literal_of (lit.Word n) = oc.Int (pos n)
 literal_of (lit.Char c) = oc.Char c
 literal_of (lit.Text bytes) = oc.Text bytes
 
--- the item of an item: let _ = Rt.print "s", or let x = literal
+-- _, or the written name of a variable
+abbrev pub target_tree : Target → PPat
+target_tree target.Wild = PAt Any
+target_tree (target.Var x) = PAt (PVar (mangled kind.Value x))
+
+-- a literal, or Rt.print "s"
+abbrev pub value_tree : Value → PSimple
+value_tree (value.Literal l) = One (Const (literal_of l))
+value_tree (value.Printed s) = Call (Val (codes "Rt" ∷ codes "print" ∷ [])) (Const (oc.Text s))
+
+-- the item of an item: let pat = exp
 abbrev pub item_tree : SourceItem → PItem
-item_tree (Print s) = Let (PAt Any) (Call (Val (codes "Rt" ∷ codes "print" ∷ [])) (Const (oc.Text s)))
-item_tree (Bind x l) = Let (PAt (PVar x)) (One (Const (literal_of l)))
+item_tree item = Let (target_tree item.target) (value_tree item.value)
 
 -- the items of a row of items
 abbrev pub items_tree : List SourceItem → PItems

@@ -9,6 +9,7 @@
 
 mod base;
 mod session;
+mod source;
 mod unit;
 
 pub use session::{Session, Unit};

@@ -1,16 +1,18 @@
 ghost use Rattle.std.specs.Prelude.{◌≡◌, ◌<◌, ◌≤◌, ◌+◌, suc, length, IfOk, IfErr, OnErr};
 ghost use Rattle.tl_text.specs.declared.fault.Refusal.{Refusal};
 ghost use Rattle.tl_text.specs.declared.fault.Fault.TheVariants as fault_is;
-ghost use Rattle.item_source.specs.Source.{IfRefused};
+ghost use Rattle.built_items.specs.Built.{IfRefused};
 ghost use Rattle.oc_layout.specs.Layout.{Layout};
 ghost use Rattle.tl_session.specs.Answers.{IsTaken, IsFailure, AnswersFailure};
 ghost use Rattle.tl_session.specs.Faithful.{IsTranslation, no_sources};
 ghost use Rattle.tl_session.specs.Refused.{first_place};
 ghost use Rattle.tl_session.specs.Written.{rt_tree};
 
+use crate::source::source_items;
 use crate::unit::{rt_text, unit_text};
+use built_items::SourceItem;
 use bumpalo::Bump;
-use item_source::{SourceItem, read_items};
+use sml_fix::Fixities;
 use std::alloc::Global;
 use std::marker::Model;
 use tl_text::{Code, Fault, List, Name, NoMemory, Place, Refusal};
@@ -74,17 +76,19 @@ pub struct Session<'a> {
     arena: &'a Bump,
     accepted: List<Accepted>,
     total: usize,
+    fix: Fixities,
 }
 
 impl<'a> Model for Session<'a> {
     ghost use Rattle.tl_session.specs.Faithful.{Standing};
-    ghost use Rattle.tl_session.specs.Sessions.{standing_of, IsCounted};
+    ghost use Rattle.sml_fix.specs.Fixities.{settings};
+    ghost use Rattle.tl_session.specs.Sessions.{standing_of, IsKept};
 
     ghost Value = { Standing };
 
     ghost view = { λ s. standing_of s.accepted };
 
-    ghost invariant = { λ s. IsCounted s.accepted s.total };
+    ghost invariant = { λ s. IsKept s.accepted s.total (settings s.fix) };
 }
 
 impl<'a> Session<'a> {
@@ -98,6 +102,7 @@ impl<'a> Session<'a> {
             arena,
             accepted: List::new(alloc),
             total: 0,
+            fix: Fixities::start(alloc)?,
         })
     }
 
@@ -129,11 +134,12 @@ impl<'a> Session<'a> {
         if self.total + bytes.len() > TOTAL_LIMIT {
             return Err(at_first_place(number, Code::TotalSize));
         }
-        let program = read_items(self.alloc, number, bytes)?;
-        let text = unit_text(self.alloc, number, name, program.items())?;
-        let source = kept(self.alloc, name, bytes, program)?;
+        let (items, left) = source_items(self.alloc, number, bytes, &self.fix)?;
+        let text = unit_text(self.alloc, number, name, items.items())?;
+        let source = kept(self.alloc, name, bytes, items)?;
         self.accepted.push(source)?;
         self.total += bytes.len();
+        self.fix = left;
         Ok(Unit {
             text: List::from_vec(text),
             notes: List::new(self.alloc),

@@ -1,26 +1,27 @@
 ghost use Rattle.std.specs.Prelude.{◌≡◌, [], ◌∷◌, map, IfOk};
 ghost use Rattle.oc_ast.specs.Plain.{Val, Module, Struct, NoItems, MoreItems};
-ghost use Rattle.oc_ast.specs.View.{plain_atom, plain_item, plain_text, row_of_items};
+ghost use Rattle.oc_ast.specs.View.{plain_atom, plain_item, plain_pat, plain_simple, plain_text, row_of_items};
 ghost use Rattle.oc_layout.specs.Layout.{Layout};
-ghost use Rattle.oc_rules.specs.Allowed.{Allowed};
+ghost use Rattle.tl_session.specs.LawfulItems.{LawfulTarget, LawfulItems};
 ghost use Rattle.tl_session.specs.Written as written;
-ghost use Rattle.item_source.specs.declared.item.SourceItem.TheVariants as source;
+ghost use Rattle.built_items.specs.declared.item.Value.TheVariants as value_is;
 
 use crate::base::base_bytes;
-use item_source::SourceItem;
+use built_items::{SourceItem, Target, Value};
 use oc_ast::{APat, ATy, Atom, Full, Item, MExp, OTy, OcLit, Pat, Rest, Simple, TDef, Text};
+use oc_names::{NameKind, mangle};
 use oc_print::print;
 use std::alloc::Global;
 use tl_text::{Boxed, List, Lit, Name, NoMemory, Path};
 
-/// The text of the unit with this number, of a source with this name.
+/// The text of the unit with this number, of a source with this name. The items are those of a program.
 pub fn unit_text(
     alloc: Global,
     number: u32,
     name: &str,
     items: &[SourceItem],
 ) -> Result<Vec<u8>, NoMemory>
-    requires { Allowed (written.unit_tree number (written.base_of name.now) items.now) }
+    requires { LawfulItems items.now }
     ensures { IfOk result (λ text. text.items ≡ Layout (written.unit_tree number (written.base_of name.now) items.now)) }
 {
     let tree = unit_module(alloc, number, name, items)?;
@@ -42,6 +43,7 @@ fn unit_module(
     name: &str,
     items: &[SourceItem],
 ) -> Result<Text, NoMemory>
+    requires { LawfulItems items.now }
     ensures { IfOk result (λ text. plain_text text ≡ written.unit_tree number (written.base_of name.now) items.now) }
 {
     let name = unit_name(alloc, number, name)?;
@@ -74,6 +76,7 @@ fn unit_name(alloc: Global, number: u32, name: &str) -> Result<Name, NoMemory>
 
 /// The items of a unit.
 fn unit_items(alloc: Global, items: &[SourceItem]) -> Result<List<Item>, NoMemory>
+    requires { LawfulItems items.now }
     ensures { IfOk result (λ made. row_of_items (map plain_item made) ≡ written.items_tree items.now) }
 {
     let mut made = List::new(alloc);
@@ -83,19 +86,43 @@ fn unit_items(alloc: Global, items: &[SourceItem]) -> Result<List<Item>, NoMemor
     Ok(made)
 }
 
-/// The item of an item.
+/// The item of an item: `let pat = exp`.
 fn item_of(alloc: Global, item: &SourceItem) -> Result<Item, NoMemory>
+    requires { LawfulTarget item.now.target }
     ensures { IfOk result (λ made. plain_item made ≡ written.item_tree item.now) }
 {
-    match item {
-        SourceItem::Print(bytes) => print_call(alloc, bytes),
-        SourceItem::Bind(name, literal) => binding(alloc, name, literal),
+    let target = target_of(alloc, &item.target)?;
+    let value = value_of(alloc, &item.value)?;
+    Ok(Item::Let(target, value))
+}
+
+/// `_`, or the written name of a variable.
+fn target_of(alloc: Global, target: &Target) -> Result<Pat, NoMemory>
+    requires { LawfulTarget target.now }
+    ensures { IfOk result (λ made. plain_pat made ≡ written.target_tree target.now) }
+{
+    match target {
+        Target::Wild => Ok(Pat::PAt(APat::Any)),
+        Target::Var(name) => {
+            let name = mangle(alloc, NameKind::Value, name)?;
+            Ok(Pat::PAt(APat::PVar(name)))
+        }
     }
 }
 
-/// `let _ = Rt.print ".."`.
-fn print_call(alloc: Global, text: &Name) -> Result<Item, NoMemory>
-    ensures { IfOk result (λ made. plain_item made ≡ written.item_tree (source.Print text.now)) }
+/// A literal, or `Rt.print ".."`.
+fn value_of(alloc: Global, value: &Value) -> Result<Simple, NoMemory>
+    ensures { IfOk result (λ made. plain_simple made ≡ written.value_tree value.now) }
+{
+    match value {
+        Value::Literal(literal) => Ok(Simple::One(Atom::Const(literal_of(alloc, literal)?))),
+        Value::Printed(bytes) => print_call(alloc, bytes),
+    }
+}
+
+/// `Rt.print ".."`.
+fn print_call(alloc: Global, text: &Name) -> Result<Simple, NoMemory>
+    ensures { IfOk result (λ made. plain_simple made ≡ written.value_tree (value_is.Printed text.now)) }
 {
     let mut path = Path::new(alloc);
     path.push(Name::new(alloc, b"Rt")?)?;
@@ -103,16 +130,7 @@ fn print_call(alloc: Global, text: &Name) -> Result<Item, NoMemory>
     let head = Boxed::new(alloc, Atom::Val(path))?;
     let text = Name::new(alloc, text.bytes())?;
     let arg = Boxed::new(alloc, Atom::Const(OcLit::Text(text)))?;
-    Ok(Item::Let(Pat::PAt(APat::Any), Simple::Call(head, arg)))
-}
-
-/// `let x = ..`.
-fn binding(alloc: Global, name: &Name, literal: &Lit) -> Result<Item, NoMemory>
-    ensures { IfOk result (λ made. plain_item made ≡ written.item_tree (source.Bind name.now literal.now)) }
-{
-    let value = literal_of(alloc, literal)?;
-    let name = Name::new(alloc, name.bytes())?;
-    Ok(Item::Let(Pat::PAt(APat::PVar(name)), Simple::One(Atom::Const(value))))
+    Ok(Simple::Call(head, arg))
 }
 
 /// The literal of a literal; a word is its number.

@@ -16,6 +16,9 @@ no_text = record { ref_ptr = (0, 0); now = [] }
 pub returns-in_default-clause-translated : goal.returns-in_default-clause-translated
 returns-in_default-clause-translated g c = stopped_at_first _ _ _
 
+pub returns-in_default-start-clause-translated : goal.returns-in_default-start-clause-translated
+returns-in_default-start-clause-translated g c = stopped_at_first _ _ _
+
 pub returns-in-Err-clause-translated : goal.returns-in-Err-clause-translated
 returns-in-Err-clause-translated g c = rt_not_written _ _ _ _ c.deref.result.now (c.deref.ensures.value ∙ c.in-Ok-start.ensures) c.in-Err.ensures.failed.1
 

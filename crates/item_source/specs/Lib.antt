@@ -1,3 +1,0 @@
-pub mod Item
-pub mod Source
-pub mod Reading

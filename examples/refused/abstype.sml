@@ -1,0 +1,1 @@
+abstype t = A with val x = A end

@@ -1,0 +1,2 @@
+infix 5 ++ infixr 5 **
+val x = a ++ b ** c

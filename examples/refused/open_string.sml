@@ -1,0 +1,2 @@
+val s = "ab
+val t = "cd"

@@ -1,0 +1,1 @@
+fun true x = 1

@@ -1,0 +1,2 @@
+print "a";
+val x = 1
