@@ -45,5 +45,6 @@ pub fn read_source(
     if let Err(refusal) = restrict(&program) {
         return Err(Fault::Refused(refusal));
     }
-    Ok((derive(alloc, &program)?, left))
+    let bare = derive(alloc, &program)?;
+    Ok((bare, left))
 }

@@ -45,8 +45,15 @@ impl<
         ensures moves { Moves scope.old scope.new result }
     {
         let (found, rest) = self.dec(room, scope, tokens)?;
-        let rest = semis(rest)?;
+        let rest = match semis(rest) {
+            Ok(rest) => rest,
+            Err(error) => {
+                drop(found);
+                return Err(error);
+            }
+        };
         if goes_in_item(rest) {
+            drop(found);
             return Err(ReadError::Refused(Code::Grammar, rest));
         }
         Ok((found, rest))

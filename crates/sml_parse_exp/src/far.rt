@@ -71,9 +71,20 @@ impl<
     {
         let rest = behind(THEN, tokens)?;
         let (first, rest) = self.exp(room, scope, rest)?;
-        let rest = behind(ELSE, rest)?;
-        let (other, rest) = self.exp(room, scope, rest)?;
-        Ok(((first, other), rest))
+        let rest = match behind(ELSE, rest) {
+            Ok(rest) => rest,
+            Err(error) => {
+                drop(first);
+                return Err(error);
+            }
+        };
+        match self.exp(room, scope, rest) {
+            Ok((other, rest)) => Ok(((first, other), rest)),
+            Err(error) => {
+                drop(first);
+                Err(error)
+            }
+        }
     }
 
     /// Behind `if`.
@@ -90,8 +101,16 @@ impl<
         ensures keeps { OnOk result (scope.new ≡ scope.old) }
     {
         let (test, rest) = self.exp(room, scope, tokens)?;
-        let ((first, other), rest) = self.branches(room, scope, rest)?;
-        Ok((chosen(self.alloc, place, test, first, other)?, rest))
+        match self.branches(room, scope, rest) {
+            Ok((branches, rest)) => {
+                let (first, other) = branches;
+                Ok((chosen(self.alloc, place, test, first, other)?, rest))
+            }
+            Err(error) => {
+                drop(test);
+                Err(error)
+            }
+        }
     }
 
     /// Behind `while`.
@@ -108,9 +127,20 @@ impl<
         ensures keeps { OnOk result (scope.new ≡ scope.old) }
     {
         let (test, rest) = self.exp(room, scope, tokens)?;
-        let rest = behind(DO, rest)?;
-        let (body, rest) = self.exp(room, scope, rest)?;
-        Ok((repeated(self.alloc, place, test, body)?, rest))
+        let rest = match behind(DO, rest) {
+            Ok(rest) => rest,
+            Err(error) => {
+                drop(test);
+                return Err(error);
+            }
+        };
+        match self.exp(room, scope, rest) {
+            Ok((body, rest)) => Ok((repeated(self.alloc, place, test, body)?, rest)),
+            Err(error) => {
+                drop(test);
+                Err(error)
+            }
+        }
     }
 
     /// Behind `case`.
@@ -127,9 +157,20 @@ impl<
         ensures keeps { OnOk result (scope.new ≡ scope.old) }
     {
         let (inner, rest) = self.exp(room, scope, tokens)?;
-        let rest = behind(OF, rest)?;
-        let (rules, rest) = self.rules(room, scope, rest)?;
-        Ok((cases(self.alloc, place, inner, rules)?, rest))
+        let rest = match behind(OF, rest) {
+            Ok(rest) => rest,
+            Err(error) => {
+                drop(inner);
+                return Err(error);
+            }
+        };
+        match self.rules(room, scope, rest) {
+            Ok((rules, rest)) => Ok((cases(self.alloc, place, inner, rules)?, rest)),
+            Err(error) => {
+                drop(inner);
+                Err(error)
+            }
+        }
     }
 
     /// Behind `fn`.

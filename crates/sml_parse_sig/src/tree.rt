@@ -6,9 +6,10 @@ ghost use Rattle.sml_grammar_sig.specs.ReadSigs as read;
 
 use crate::real::Suffix;
 use sml_ast::{Ident, SigExp, Spec};
+use sml_nodes::{boxed_above, over};
 use sml_scan::above;
 use std::alloc::Global;
-use tl_text::{Boxed, List, NoMemory, Place};
+use tl_text::{List, NoMemory, Place};
 
 /// The place of the first token.
 fn place_of(sig: &SigExp) -> Place
@@ -70,9 +71,16 @@ pub fn suffixed(
             None => place,
         },
     };
-    let height = above(sig.1, 0)?.max(least);
-    let inner = Boxed::new(alloc, sig.0)?;
-    Ok((SigExp::Real(place, word, inner, vars, name, ty), height))
+    match boxed_above(alloc, sig, 0) {
+        Ok((inner, height)) => Ok((
+            SigExp::Real(place, word, inner, vars, name, ty),
+            height.max(least),
+        )),
+        Err(error) => {
+            drop((vars, name, ty));
+            Err(error)
+        }
+    }
 }
 
 /// Whether it is an identifier alone.
@@ -116,12 +124,15 @@ pub fn included(
 {
     match others {
         None => {
-            let height = above(sig.1, 0)?;
-            Ok((Spec::Incl(place, Boxed::new(alloc, sig.0)?), height))
+            let (inner, height) = boxed_above(alloc, sig, 0)?;
+            Ok((Spec::Incl(place, inner), height))
         }
         Some(others) => match sig.0 {
             SigExp::SigAt(_, name) => Ok((identifiers(place, name, others)?, 1)),
-            _ => Ok((Spec::Incls(place, others), above(sig.1, 0)?)),
+            other => {
+                drop(other);
+                over(Spec::Incls(place, others), sig.1, 0)
+            }
         },
     }
 }

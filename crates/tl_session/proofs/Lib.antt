@@ -17,3 +17,4 @@ pub mod Forces
 pub mod SourceItems
 pub mod Translation
 pub mod SessionLemmas
+pub mod Adding
