@@ -45,6 +45,5 @@ pub fn read_source(
     if let Err(refusal) = restrict(&program) {
         return Err(Fault::Refused(refusal));
     }
-    let bare = derive(alloc, &program)?;
-    Ok((bare, left))
+    Ok((derive(alloc, &program)?, left))
 }

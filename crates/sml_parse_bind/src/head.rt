@@ -134,7 +134,6 @@ fn arguments<'a>(
         Front::Parted(place, left, op, right) => {
             let ((found, other), rest) = more_pats(alloc, room, fix, tokens)?;
             if goes_in_head(rest) {
-                drop((left, right));
                 return Err(ReadError::Refused(Code::Grammar, rest));
             }
             let height = higher(height, other);
@@ -156,7 +155,6 @@ fn mid<'a>(
     let (op, rest) = infix_vid(alloc, fix, tokens)?;
     let (right, rest) = at_pat(alloc, room, fix, rest)?;
     if goes_in_head(rest) {
-        drop((left, right));
         return Err(ReadError::Refused(Code::Grammar, rest));
     }
     let height = higher(left.1, right.1);
@@ -220,7 +218,6 @@ fn low<'a>(
     match opening(alloc, room, fix, tokens) {
         Ok((found, rest)) => {
             if is_infix_vid(fix, rest) {
-                drop(found);
                 return Err(ReadError::Refused(Code::Depth, rest));
             }
             arguments(alloc, room, fix, found, rest)

@@ -248,13 +248,9 @@ impl<
         ensures keeps { OnOk result (scope.new ≡ scope.old) }
     {
         let (first, rest) = self.exp(room, scope, tokens)?;
-        match self.behind_first(room, scope, rest) {
-            Ok((others, rest)) => Ok((closed(self.alloc, place, first, others)?, rest)),
-            Err(error) => {
-                drop(first);
-                Err(error)
-            }
-        }
+        let (others, rest) = self.behind_first(room, scope, rest)?;
+        let atom = closed(self.alloc, place, first, others)?;
+        Ok((atom, rest))
     }
 
     /// Behind an opening parenthesis.

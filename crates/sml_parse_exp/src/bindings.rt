@@ -43,13 +43,7 @@ impl<
         ensures keeps { OnOk result (scope.new ≡ scope.old) }
     {
         let (pat, rest) = pat(self.alloc, room, scope.fixities(), tokens)?;
-        let (exp, rest) = match self.value(room, scope, rest) {
-            Ok(read) => read,
-            Err(error) => {
-                drop(pat);
-                return Err(error);
-            }
-        };
+        let (exp, rest) = self.value(room, scope, rest)?;
         let height = higher(pat.1, exp.height);
         Ok((((pat.0, exp.tree), height), rest))
     }

@@ -56,13 +56,7 @@ fn front<'a>(
     ensures { Gives (λ x. (x.0, x.1.now)) result (mapped spec.front (spec.front_read some_operator fix.now room) tokens.now) }
 {
     let ((found, height), rest) = clause_front(alloc, room, some_operator, fix, tokens)?;
-    let (ty, rest) = match result_ty(alloc, room, rest) {
-        Ok(read) => read,
-        Err(error) => {
-            drop(found);
-            return Err(error);
-        }
-    };
+    let (ty, rest) = result_ty(alloc, room, rest)?;
     match ty {
         None => Ok((((found, None), higher(height, 0)), rest)),
         Some((ty, other)) => Ok((((found, Some(ty)), higher(height, other)), rest)),
@@ -100,13 +94,8 @@ impl<
             scope.fixities(),
             tokens,
         )?;
-        match self.value(room, scope, rest) {
-            Ok((body, rest)) => Ok((clause(head, ty, height, body)?, rest)),
-            Err(error) => {
-                drop((head, ty));
-                Err(error)
-            }
-        }
+        let (body, rest) = self.value(room, scope, rest)?;
+        Ok((clause(head, ty, height, body)?, rest))
     }
 
     /// A clause of at most this height.

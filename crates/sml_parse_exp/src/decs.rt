@@ -45,15 +45,8 @@ impl<
         ensures moves { Moves scope.old scope.new result }
     {
         let (found, rest) = self.dec(room, scope, tokens)?;
-        let rest = match semis(rest) {
-            Ok(rest) => rest,
-            Err(error) => {
-                drop(found);
-                return Err(error);
-            }
-        };
+        let rest = semis(rest)?;
         if goes_in_item(rest) {
-            drop(found);
             return Err(ReadError::Refused(Code::Grammar, rest));
         }
         Ok((found, rest))

@@ -71,20 +71,9 @@ impl<
     {
         let rest = behind(THEN, tokens)?;
         let (first, rest) = self.exp(room, scope, rest)?;
-        let rest = match behind(ELSE, rest) {
-            Ok(rest) => rest,
-            Err(error) => {
-                drop(first);
-                return Err(error);
-            }
-        };
-        match self.exp(room, scope, rest) {
-            Ok((other, rest)) => Ok(((first, other), rest)),
-            Err(error) => {
-                drop(first);
-                Err(error)
-            }
-        }
+        let rest = behind(ELSE, rest)?;
+        let (other, rest) = self.exp(room, scope, rest)?;
+        Ok(((first, other), rest))
     }
 
     /// Behind `if`.
@@ -101,16 +90,8 @@ impl<
         ensures keeps { OnOk result (scope.new ≡ scope.old) }
     {
         let (test, rest) = self.exp(room, scope, tokens)?;
-        match self.branches(room, scope, rest) {
-            Ok((branches, rest)) => {
-                let (first, other) = branches;
-                Ok((chosen(self.alloc, place, test, first, other)?, rest))
-            }
-            Err(error) => {
-                drop(test);
-                Err(error)
-            }
-        }
+        let ((first, other), rest) = self.branches(room, scope, rest)?;
+        Ok((chosen(self.alloc, place, test, first, other)?, rest))
     }
 
     /// Behind `while`.
@@ -127,20 +108,9 @@ impl<
         ensures keeps { OnOk result (scope.new ≡ scope.old) }
     {
         let (test, rest) = self.exp(room, scope, tokens)?;
-        let rest = match behind(DO, rest) {
-            Ok(rest) => rest,
-            Err(error) => {
-                drop(test);
-                return Err(error);
-            }
-        };
-        match self.exp(room, scope, rest) {
-            Ok((body, rest)) => Ok((repeated(self.alloc, place, test, body)?, rest)),
-            Err(error) => {
-                drop(test);
-                Err(error)
-            }
-        }
+        let rest = behind(DO, rest)?;
+        let (body, rest) = self.exp(room, scope, rest)?;
+        Ok((repeated(self.alloc, place, test, body)?, rest))
     }
 
     /// Behind `case`.
@@ -157,20 +127,9 @@ impl<
         ensures keeps { OnOk result (scope.new ≡ scope.old) }
     {
         let (inner, rest) = self.exp(room, scope, tokens)?;
-        let rest = match behind(OF, rest) {
-            Ok(rest) => rest,
-            Err(error) => {
-                drop(inner);
-                return Err(error);
-            }
-        };
-        match self.rules(room, scope, rest) {
-            Ok((rules, rest)) => Ok((cases(self.alloc, place, inner, rules)?, rest)),
-            Err(error) => {
-                drop(inner);
-                Err(error)
-            }
-        }
+        let rest = behind(OF, rest)?;
+        let (rules, rest) = self.rules(room, scope, rest)?;
+        Ok((cases(self.alloc, place, inner, rules)?, rest))
     }
 
     /// Behind `fn`.

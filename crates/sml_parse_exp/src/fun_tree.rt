@@ -4,8 +4,8 @@ ghost use Rattle.sml_parse_exp.specs.Trees as trees;
 
 use crate::tall::Tall;
 use sml_ast::{AtPat, Clause, Exp, Ty};
-use sml_nodes::over;
 use sml_parse_bind::Head;
+use sml_scan::above;
 use tl_text::{NoMemory, Place};
 
 /// The place of the first token.
@@ -48,7 +48,8 @@ pub fn clause(
 ) -> Result<Tall<Clause>, NoMemory>
     ensures { IfOk result (λ x. trees.seen x ≡ spec.clause head ty height (trees.seen body)) }
 {
+    let height = above(height, body.height)?;
     let ends = body.ends;
-    let (tree, height) = over(clause_tree(head, ty, body.tree), height, body.height)?;
+    let tree = clause_tree(head, ty, body.tree);
     Ok(Tall { tree, ends, height })
 }

@@ -41,20 +41,9 @@ impl<
             return Err(ReadError::Refused(Code::Depth, tokens));
         }
         let (pat, rest) = pat(self.alloc, room, scope.fixities(), tokens)?;
-        let rest = match behind(DARROW, rest) {
-            Ok(rest) => rest,
-            Err(error) => {
-                drop(pat);
-                return Err(error);
-            }
-        };
-        match self.exp(room, scope, rest) {
-            Ok((exp, rest)) => Ok((arm(pat, exp)?, rest)),
-            Err(error) => {
-                drop(pat);
-                Err(error)
-            }
-        }
+        let rest = behind(DARROW, rest)?;
+        let (exp, rest) = self.exp(room, scope, rest)?;
+        Ok((arm(pat, exp)?, rest))
     }
 
     /// `p => e`, of at most this height.

@@ -89,13 +89,7 @@ impl<
         let (mut found, mut rest) = self.operand(room, scope, tokens)?;
         let mut taken = is_taken(self.alloc, scope.fixities(), floor, rest)?;
         'operators: while taken {
-            let (more, after) = match self.operation(room, floor, &found, scope, rest) {
-                Ok(read) => read,
-                Err(error) => {
-                    drop(found);
-                    return Err(error);
-                }
-            };
+            let (more, after) = self.operation(room, floor, &found, scope, rest)?;
             found = infixed(self.alloc, found, more.0, more.1)?;
             rest = after;
             taken = is_taken(self.alloc, scope.fixities(), floor, rest)?;

@@ -50,16 +50,9 @@ impl<
         'types: while is_next(COLON, rest) {
             let least = higher(2, found.height);
             if room < least {
-                drop(found);
                 return Err(ReadError::Refused(Code::Depth, rest));
             }
-            let (ty, after) = match annotation(self.alloc, room, rest) {
-                Ok(read) => read,
-                Err(error) => {
-                    drop(found);
-                    return Err(error);
-                }
-            };
+            let (ty, after) = annotation(self.alloc, room, rest)?;
             found = typed(self.alloc, found, ty)?;
             rest = after;
         }
@@ -87,21 +80,13 @@ impl<
         let (mut found, mut rest) = self.typed(room, scope, tokens)?;
         'operands: while is_next(ANDALSO, rest) {
             if !is_near(found.ends) {
-                drop(found);
                 return Err(ReadError::Refused(Code::Grammar, rest));
             }
             let least = higher(2, found.height);
             if room < least {
-                drop(found);
                 return Err(ReadError::Refused(Code::Depth, rest));
             }
-            let (right, after) = match self.and_suffix(room, scope, rest) {
-                Ok(read) => read,
-                Err(error) => {
-                    drop(found);
-                    return Err(error);
-                }
-            };
+            let (right, after) = self.and_suffix(room, scope, rest)?;
             found = and_also(self.alloc, found, right)?;
             rest = after;
         }
@@ -129,21 +114,13 @@ impl<
         let (mut found, mut rest) = self.and_also(room, scope, tokens)?;
         'operands: while is_next(ORELSE, rest) {
             if !is_near(found.ends) {
-                drop(found);
                 return Err(ReadError::Refused(Code::Grammar, rest));
             }
             let least = higher(2, found.height);
             if room < least {
-                drop(found);
                 return Err(ReadError::Refused(Code::Depth, rest));
             }
-            let (right, after) = match self.or_suffix(room, scope, rest) {
-                Ok(read) => read,
-                Err(error) => {
-                    drop(found);
-                    return Err(error);
-                }
-            };
+            let (right, after) = self.or_suffix(room, scope, rest)?;
             found = or_else(self.alloc, found, right)?;
             rest = after;
         }
@@ -178,20 +155,13 @@ impl<
             return Ok((found, rest));
         }
         if !is_near(found.ends) {
-            drop(found);
             return Err(ReadError::Refused(Code::Grammar, rest));
         }
         let least = higher(3, found.height);
         if room < least {
-            drop(found);
             return Err(ReadError::Refused(Code::Depth, rest));
         }
-        match self.handle_suffix(room, scope, rest) {
-            Ok((rules, rest)) => Ok((handled(self.alloc, found, rules)?, rest)),
-            Err(error) => {
-                drop(found);
-                Err(error)
-            }
-        }
+        let (rules, rest) = self.handle_suffix(room, scope, rest)?;
+        Ok((handled(self.alloc, found, rules)?, rest))
     }
 }

@@ -6,14 +6,13 @@ ghost use Rattle.sml_ast.specs.declared.exp.Exp.TheVariants as exps;
 ghost use Rattle.sml_ast.specs.declared.exp.AtExp.TheVariants as at;
 ghost use Rattle.sml_parse_exp.specs.Trees as trees;
 
-use crate::tall::{Ends, Reach, Tall, farther, in_match};
+use crate::tall::{Ends, Reach, Tall, farther, higher, in_match};
 use readers::Fixity;
 use sml_ast::{AtExp, Exp, Ident, Pat, Rule, Ty};
 use sml_fix::Fixities;
-use sml_nodes::{boxed_above, boxed_three, boxed_two, over};
 use sml_scan::{above, fixity_of};
 use std::alloc::Global;
-use tl_text::{List, NoMemory, Place};
+use tl_text::{Boxed, List, NoMemory, Place};
 
 /// What stands behind the first expression in parentheses: the expressions, which have at most this height.
 pub enum Behind {
@@ -72,11 +71,20 @@ pub fn top_fixity(fix: &Fixities, exp: &Exp) -> Option<Fixity>
     }
 }
 
+fn pair(alloc: Global, left: Exp, right: Exp) -> Result<(Boxed<Exp>, Boxed<Exp>), NoMemory>
+    ensures { IfOk result (λ x. x ≡ (left, right)) }
+{
+    let left = Boxed::new(alloc, left)?;
+    let right = Boxed::new(alloc, right)?;
+    Ok((left, right))
+}
+
 /// `(e)`
 pub fn paren(alloc: Global, place: Place, inner: Tall<Exp>) -> Result<(AtExp, u32), NoMemory>
     ensures { IfOk result (λ x. x ≡ grammar.paren_of (place, grammar.Inside.Parts (trees.seen inner, grammar.Behind.Closed))) }
 {
-    let (inner, height) = boxed_above(alloc, (inner.tree, inner.height), 0)?;
+    let height = above(inner.height, 0)?;
+    let inner = Boxed::new(alloc, inner.tree)?;
     Ok((AtExp::Paren(place, inner), height))
 }
 
@@ -89,7 +97,8 @@ pub fn tuple(
 ) -> Result<(AtExp, u32), NoMemory>
     ensures { IfOk result (λ x. x ≡ (at.Tuple place first.tree others.0, max first.height others.1 + 1)) }
 {
-    let (first, height) = boxed_above(alloc, (first.tree, first.height), others.1)?;
+    let height = above(first.height, others.1)?;
+    let first = Boxed::new(alloc, first.tree)?;
     Ok((AtExp::Tuple(place, first, others.0), height))
 }
 
@@ -102,7 +111,8 @@ pub fn sequence(
 ) -> Result<(AtExp, u32), NoMemory>
     ensures { IfOk result (λ x. x ≡ (at.Seq place first.tree others.0, max first.height others.1 + 1)) }
 {
-    let (first, height) = boxed_above(alloc, (first.tree, first.height), others.1)?;
+    let height = above(first.height, others.1)?;
+    let first = Boxed::new(alloc, first.tree)?;
     Ok((AtExp::Seq(place, first, others.0), height))
 }
 
@@ -146,9 +156,9 @@ pub fn infixed(
 ) -> Result<Tall<Exp>, NoMemory>
     ensures { IfOk result (λ x. trees.seen x ≡ grammar.infix_of (trees.seen left) op (trees.seen right)) }
 {
+    let height = above(left.height, right.height)?;
     let place = exp_place(&left.tree);
-    let left = (left.tree, left.height);
-    let ((left, right), height) = boxed_two(alloc, left, (right.tree, right.height))?;
+    let (left, right) = pair(alloc, left.tree, right.tree)?;
     Ok(Tall {
         tree: Exp::Infix(place, left, op, right),
         ends: Ends {
@@ -163,14 +173,9 @@ pub fn infixed(
 pub fn typed(alloc: Global, exp: Tall<Exp>, ty: (Ty, u32)) -> Result<Tall<Exp>, NoMemory>
     ensures { IfOk result (λ x. trees.seen x ≡ grammar.typed_of (trees.seen exp) ty) }
 {
+    let height = above(exp.height, ty.1)?;
     let place = exp_place(&exp.tree);
-    let (inner, height) = match boxed_above(alloc, (exp.tree, exp.height), ty.1) {
-        Ok(boxed) => boxed,
-        Err(error) => {
-            drop(ty);
-            return Err(error);
-        }
-    };
+    let inner = Boxed::new(alloc, exp.tree)?;
     Ok(Tall {
         tree: Exp::Typed(place, inner, ty.0),
         ends: Ends {
@@ -185,10 +190,10 @@ pub fn typed(alloc: Global, exp: Tall<Exp>, ty: (Ty, u32)) -> Result<Tall<Exp>, 
 pub fn and_also(alloc: Global, left: Tall<Exp>, right: Tall<Exp>) -> Result<Tall<Exp>, NoMemory>
     ensures { IfOk result (λ x. trees.seen x ≡ grammar.and_of (trees.seen left) (trees.seen right)) }
 {
+    let height = above(left.height, right.height)?;
     let place = exp_place(&left.tree);
     let ends = right.ends;
-    let left = (left.tree, left.height);
-    let ((left, right), height) = boxed_two(alloc, left, (right.tree, right.height))?;
+    let (left, right) = pair(alloc, left.tree, right.tree)?;
     Ok(Tall {
         tree: Exp::AndAlso(place, left, right),
         ends,
@@ -200,10 +205,10 @@ pub fn and_also(alloc: Global, left: Tall<Exp>, right: Tall<Exp>) -> Result<Tall
 pub fn or_else(alloc: Global, left: Tall<Exp>, right: Tall<Exp>) -> Result<Tall<Exp>, NoMemory>
     ensures { IfOk result (λ x. trees.seen x ≡ grammar.or_of (trees.seen left) (trees.seen right)) }
 {
+    let height = above(left.height, right.height)?;
     let place = exp_place(&left.tree);
     let ends = right.ends;
-    let left = (left.tree, left.height);
-    let ((left, right), height) = boxed_two(alloc, left, (right.tree, right.height))?;
+    let (left, right) = pair(alloc, left.tree, right.tree)?;
     Ok(Tall {
         tree: Exp::OrElse(place, left, right),
         ends,
@@ -219,8 +224,9 @@ pub fn handled(
 ) -> Result<Tall<Exp>, NoMemory>
     ensures { IfOk result (λ x. trees.seen x ≡ trees.handled (trees.seen exp) (trees.seen rules)) }
 {
+    let height = above(exp.height, rules.height)?;
     let place = exp_place(&exp.tree);
-    let (inner, height) = boxed_above(alloc, (exp.tree, exp.height), rules.height)?;
+    let inner = Boxed::new(alloc, exp.tree)?;
     Ok(Tall {
         tree: Exp::Handle(place, inner, rules.tree),
         ends: in_match(rules.ends),
@@ -232,13 +238,28 @@ pub fn handled(
 pub fn raised(alloc: Global, place: Place, exp: Tall<Exp>) -> Result<Tall<Exp>, NoMemory>
     ensures { IfOk result (λ x. trees.seen x ≡ grammar.raise_of (place, trees.seen exp)) }
 {
+    let height = above(exp.height, 0)?;
     let ends = farther(exp.ends);
-    let (inner, height) = boxed_above(alloc, (exp.tree, exp.height), 0)?;
+    let inner = Boxed::new(alloc, exp.tree)?;
     Ok(Tall {
         tree: Exp::Raise(place, inner),
         ends,
         height,
     })
+}
+
+fn conditional(
+    alloc: Global,
+    place: Place,
+    test: Exp,
+    first: Exp,
+    other: Exp,
+) -> Result<Exp, NoMemory>
+    ensures { IfOk result (λ x. x ≡ exps.If place test first other) }
+{
+    let (first, other) = pair(alloc, first, other)?;
+    let test = Boxed::new(alloc, test)?;
+    Ok(Exp::If(place, test, first, other))
 }
 
 /// `if e then f else g`
@@ -251,20 +272,10 @@ pub fn chosen(
 ) -> Result<Tall<Exp>, NoMemory>
     ensures { IfOk result (λ x. trees.seen x ≡ grammar.if_of (place, (trees.seen test, (trees.seen first, trees.seen other)))) }
 {
+    let height = above(test.height, higher(first.height, other.height))?;
     let ends = farther(other.ends);
-    let test = (test.tree, test.height);
-    let first = (first.tree, first.height);
-    let ((test, first, other), height) = boxed_three(
-        alloc,
-        test,
-        first,
-        (other.tree, other.height),
-    )?;
-    Ok(Tall {
-        tree: Exp::If(place, test, first, other),
-        ends,
-        height,
-    })
+    let tree = conditional(alloc, place, test.tree, first.tree, other.tree)?;
+    Ok(Tall { tree, ends, height })
 }
 
 /// `while e do f`
@@ -276,9 +287,9 @@ pub fn repeated(
 ) -> Result<Tall<Exp>, NoMemory>
     ensures { IfOk result (λ x. trees.seen x ≡ grammar.while_of (place, (trees.seen test, trees.seen body))) }
 {
+    let height = above(test.height, body.height)?;
     let ends = farther(body.ends);
-    let test = (test.tree, test.height);
-    let ((test, body), height) = boxed_two(alloc, test, (body.tree, body.height))?;
+    let (test, body) = pair(alloc, test.tree, body.tree)?;
     Ok(Tall {
         tree: Exp::While(place, test, body),
         ends,
@@ -295,7 +306,8 @@ pub fn cases(
 ) -> Result<Tall<Exp>, NoMemory>
     ensures { IfOk result (λ x. trees.seen x ≡ trees.case_node place (trees.seen exp) (trees.seen rules)) }
 {
-    let (inner, height) = boxed_above(alloc, (exp.tree, exp.height), rules.height)?;
+    let height = above(exp.height, rules.height)?;
+    let inner = Boxed::new(alloc, exp.tree)?;
     Ok(Tall {
         tree: Exp::Case(place, inner, rules.tree),
         ends: in_match(rules.ends),
@@ -332,8 +344,11 @@ fn pat_place(pat: &Pat) -> Place
 pub fn arm(pat: (Pat, u32), exp: Tall<Exp>) -> Result<Tall<Rule>, NoMemory>
     ensures { IfOk result (λ x. trees.seen x ≡ grammar.arm_of (pat, trees.seen exp)) }
 {
+    let height = above(pat.1, exp.height)?;
     let place = pat_place(&pat.0);
-    let ends = exp.ends;
-    let (tree, height) = over(Rule::Arm(place, pat.0, exp.tree), pat.1, exp.height)?;
-    Ok(Tall { tree, ends, height })
+    Ok(Tall {
+        tree: Rule::Arm(place, pat.0, exp.tree),
+        ends: exp.ends,
+        height,
+    })
 }

@@ -94,13 +94,9 @@ impl<'f, 'a, F: Fn(Global, u32, Level, &Fixities, &'a [Token]) -> Read<'a, (Pat,
         ensures { Gives (λ x. (x.0, x.1.now)) result (mapped (λ x. grammar.paren_of (place, grammar.Inside.Parts x)) (levels.parts (settings self.now.fix.now) room) tokens.now) }
     {
         let (first, rest) = self.pat(room, tokens)?;
-        match self.behind_first(room, rest) {
-            Ok((others, rest)) => Ok((closed(self.alloc, place, first, others)?, rest)),
-            Err(error) => {
-                drop(first);
-                Err(error)
-            }
-        }
+        let (others, rest) = self.behind_first(room, rest)?;
+        let atom = closed(self.alloc, place, first, others)?;
+        Ok((atom, rest))
     }
 
     /// Behind an opening parenthesis.

@@ -64,13 +64,8 @@ impl<'f, 'a, F: Fn(Global, u32, Level, &Fixities, &'a [Token]) -> Read<'a, (Pat,
     {
         let rest = behind(COLON, tokens)?;
         let (ty, rest) = ty(self.alloc, room, rest)?;
-        match self.layer(room, rest) {
-            Ok((pat, rest)) => Ok((typed_pun(vid, ty, pat)?, rest)),
-            Err(error) => {
-                drop(ty);
-                Err(error)
-            }
-        }
+        let (pat, rest) = self.layer(room, rest)?;
+        Ok((typed_pun(vid, ty, pat)?, rest))
     }
 
     /// What follows an identifier, `: t`, `= p` or `as p`.
@@ -84,24 +79,20 @@ impl<'f, 'a, F: Fn(Global, u32, Level, &Fixities, &'a [Token]) -> Read<'a, (Pat,
         requires low { room ≤ self.now.most }
         ensures { Gives (λ x. (x.0, x.1.now)) result (mapped (λ t. grammar.vid_field_of (names, Some t)) (levels.tail (settings self.now.fix.now) room) tokens.now) }
     {
-        let (label, vid) = names;
         if is_next(COLON, tokens) {
-            drop(label);
             if room == 0 {
                 return Err(ReadError::Refused(Code::Depth, tokens));
             }
-            return self.typed_tail(vid, room, tokens);
+            return self.typed_tail(names.1, room, tokens);
         }
         if is_next(EQUALS, tokens) {
-            drop(vid);
             if room < 2 {
                 return Err(ReadError::Refused(Code::Depth, tokens));
             }
             let rest = behind(EQUALS, tokens)?;
             let (pat, rest) = self.pat(room, rest)?;
-            return Ok((named(label, pat)?, rest));
+            return Ok((named(names.0, pat)?, rest));
         }
-        drop(label);
         if !is_next(AS, tokens) {
             return Err(ReadError::Refused(Code::Grammar, tokens));
         }
@@ -110,7 +101,7 @@ impl<'f, 'a, F: Fn(Global, u32, Level, &Fixities, &'a [Token]) -> Read<'a, (Pat,
         }
         let rest = behind(AS, tokens)?;
         let (pat, rest) = self.pat(room, rest)?;
-        Ok((layered_pun(vid, pat)?, rest))
+        Ok((layered_pun(names.1, pat)?, rest))
     }
 
     /// The same, where something follows.
@@ -141,7 +132,6 @@ impl<'f, 'a, F: Fn(Global, u32, Level, &Fixities, &'a [Token]) -> Read<'a, (Pat,
     {
         let (field, rest) = self.open_tail(names, room, tokens)?;
         if goes_in_field(rest) {
-            drop(field);
             return Err(ReadError::Refused(Code::Grammar, rest));
         }
         Ok((field, rest))
@@ -180,7 +170,6 @@ impl<'f, 'a, F: Fn(Global, u32, Level, &Fixities, &'a [Token]) -> Read<'a, (Pat,
         let rest = behind(EQUALS, tokens)?;
         let (pat, rest) = self.pat(room, rest)?;
         if goes_in_field(rest) {
-            drop(pat);
             return Err(ReadError::Refused(Code::Grammar, rest));
         }
         Ok((pat, rest))

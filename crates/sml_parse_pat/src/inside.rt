@@ -76,7 +76,6 @@ impl<'f, 'a, F: Fn(Global, u32, Level, &Fixities, &'a [Token]) -> Read<'a, (Pat,
     {
         let (found, rest) = self.row(room, Floor::ground(), tokens)?;
         if goes_inside(rest) {
-            drop(found);
             return Err(ReadError::Refused(Code::Grammar, rest));
         }
         Ok((found, rest))
@@ -89,7 +88,6 @@ impl<'f, 'a, F: Fn(Global, u32, Level, &Fixities, &'a [Token]) -> Read<'a, (Pat,
         let rest = behind(COLON, tokens)?;
         let (ty, rest) = ty(self.alloc, room, rest)?;
         if goes_inside(rest) {
-            drop(ty);
             return Err(ReadError::Refused(Code::Grammar, rest));
         }
         Ok((ty, rest))
@@ -105,16 +103,9 @@ impl<'f, 'a, F: Fn(Global, u32, Level, &Fixities, &'a [Token]) -> Read<'a, (Pat,
         'types: while is_next(COLON, rest) {
             let least = higher(2, found.1);
             if room < least {
-                drop(found);
                 return Err(ReadError::Refused(Code::Depth, rest));
             }
-            let (ty, after) = match self.annotation(room, rest) {
-                Ok(read) => read,
-                Err(error) => {
-                    drop(found);
-                    return Err(error);
-                }
-            };
+            let (ty, after) = self.annotation(room, rest)?;
             found = typed(self.alloc, found, ty)?;
             rest = after;
         }
@@ -148,15 +139,10 @@ impl<'f, 'a, F: Fn(Global, u32, Level, &Fixities, &'a [Token]) -> Read<'a, (Pat,
         ensures { Gives (λ x. (x.0, x.1.now)) result (levels.pat_level (settings self.now.fix.now) room tokens.now) }
     {
         let (found, rest) = self.typed(room, tokens)?;
-        match self.upper(room, is_bare(&found), rest) {
-            Ok((inner, rest)) => match inner {
-                None => Ok((found, rest)),
-                Some(inner) => Ok((layered(self.alloc, found, inner)?, rest)),
-            },
-            Err(error) => {
-                drop(found);
-                Err(error)
-            }
+        let (inner, rest) = self.upper(room, is_bare(&found), rest)?;
+        match inner {
+            None => Ok((found, rest)),
+            Some(inner) => Ok((layered(self.alloc, found, inner)?, rest)),
         }
     }
 }

@@ -127,7 +127,6 @@ impl<'f, 'a, F: Fn(Global, u32, Level, &Fixities, &'a [Token]) -> Read<'a, (Pat,
     {
         let (found, rest) = self.open_operand(room, tokens)?;
         if begins_at(self.fix, rest) {
-            drop(found);
             return Err(ReadError::Refused(Code::Grammar, rest));
         }
         Ok((found, rest))
@@ -164,13 +163,7 @@ impl<'f, 'a, F: Fn(Global, u32, Level, &Fixities, &'a [Token]) -> Read<'a, (Pat,
     {
         let (mut found, mut rest) = self.operand(room, tokens)?;
         'operators: while is_taken(self.fix, floor, rest) {
-            let (more, after) = match self.operation(room, floor, &found, rest) {
-                Ok(read) => read,
-                Err(error) => {
-                    drop(found);
-                    return Err(error);
-                }
-            };
+            let (more, after) = self.operation(room, floor, &found, rest)?;
             found = infixed(self.alloc, found, more.0, more.1)?;
             rest = after;
         }

@@ -1,4 +1,4 @@
-ghost use Rattle.std.specs.Prelude.{◌≡◌, IfOk, max, suc, None};
+ghost use Rattle.std.specs.Prelude.{◌≡◌, ◌+◌, IfOk, max, None};
 ghost use Rattle.readers.specs.declared.floor.Fixity.{Fixity};
 ghost use Rattle.sml_fix.specs.Fixities.{settings};
 ghost use Rattle.sml_grammar.specs.Pats as grammar;
@@ -11,8 +11,7 @@ ghost use Rattle.sml_parse_pat.specs.Rows as rows;
 use readers::Fixity;
 use sml_ast::{AtPat, Ident, Label, LongIdent, PField, Pat, Ty};
 use sml_fix::Fixities;
-use sml_nodes::{boxed_above, boxed_two, over};
-use sml_scan::fixity_of;
+use sml_scan::{above, fixity_of};
 use std::alloc::Global;
 use tl_text::{Boxed, List, Name, NoMemory, Place};
 
@@ -64,9 +63,10 @@ pub fn goes_on(field: &(PField, u32)) -> bool
 
 /// `(p)`
 fn paren(alloc: Global, place: Place, inner: (Pat, u32)) -> Result<(AtPat, u32), NoMemory>
-    ensures { IfOk result (λ x. x ≡ (at.PParen place inner.0, suc inner.1)) }
+    ensures { IfOk result (λ x. x ≡ (at.PParen place inner.0, inner.1 + 1)) }
 {
-    let (inner, height) = boxed_above(alloc, inner, 0)?;
+    let height = above(inner.1, 0)?;
+    let inner = Boxed::new(alloc, inner.0)?;
     Ok((AtPat::PParen(place, inner), height))
 }
 
@@ -77,9 +77,10 @@ fn tupled(
     first: (Pat, u32),
     others: (List<Pat>, u32),
 ) -> Result<(AtPat, u32), NoMemory>
-    ensures { IfOk result (λ x. x ≡ (at.PTuple place first.0 others.0, suc (max first.1 others.1))) }
+    ensures { IfOk result (λ x. x ≡ (at.PTuple place first.0 others.0, max first.1 others.1 + 1)) }
 {
-    let (first, height) = boxed_above(alloc, first, others.1)?;
+    let height = above(first.1, others.1)?;
+    let first = Boxed::new(alloc, first.0)?;
     Ok((AtPat::PTuple(place, first, others.0), height))
 }
 
@@ -107,7 +108,10 @@ pub fn constructed(
 {
     match arg {
         None => Ok((Pat::PAtom(name.0, AtPat::PId(name.0, name.1, name.2)), 2)),
-        Some((atom, height)) => { over(Pat::PCon(name.0, name.1, name.2, atom), 1, height) }
+        Some((atom, height)) => {
+            let height = above(1, height)?;
+            Ok((Pat::PCon(name.0, name.1, name.2, atom), height))
+        }
     }
 }
 
@@ -115,8 +119,32 @@ pub fn constructed(
 pub fn atomic(atom: (AtPat, u32)) -> Result<(Pat, u32), NoMemory>
     ensures { IfOk result (λ x. x ≡ grammar.operand_of (grammar.Operand.Atom atom)) }
 {
+    let height = above(atom.1, 0)?;
     let place = at_place(&atom.0);
-    over(Pat::PAtom(place, atom.0), atom.1, 0)
+    Ok((Pat::PAtom(place, atom.0), height))
+}
+
+fn pair(alloc: Global, left: Pat, right: Pat) -> Result<(Boxed<Pat>, Boxed<Pat>), NoMemory>
+    ensures { IfOk result (λ x. x ≡ (left, right)) }
+{
+    let left = Boxed::new(alloc, left)?;
+    let right = Boxed::new(alloc, right)?;
+    Ok((left, right))
+}
+
+/// `p :: q`, where the higher one has this height.
+fn infix_node(
+    alloc: Global,
+    left: Pat,
+    op: Ident,
+    right: Pat,
+    height: u32,
+) -> Result<(Pat, u32), NoMemory>
+    ensures { IfOk result (λ x. x ≡ (pats.PInfix (grammar.pat_place left) left op right, height)) }
+{
+    let place = pat_place(&left);
+    let (left, right) = pair(alloc, left, right)?;
+    Ok((Pat::PInfix(place, left, op, right), height))
 }
 
 /// `p :: q`
@@ -128,9 +156,10 @@ pub fn infixed(
 ) -> Result<(Pat, u32), NoMemory>
     ensures { IfOk result (λ x. x ≡ grammar.infix_of left op right) }
 {
-    let place = pat_place(&left.0);
-    let ((left, right), height) = boxed_two(alloc, left, right)?;
-    Ok((Pat::PInfix(place, left, op, right), height))
+    match left.1.max(right.1).checked_add(1) {
+        Some(height) => infix_node(alloc, left.0, op, right.0, height),
+        None => Err(NoMemory),
+    }
 }
 
 /// How the operator at the top binds.
@@ -147,14 +176,10 @@ pub fn top_fixity(fix: &Fixities, pat: &Pat) -> Option<Fixity>
 pub fn typed(alloc: Global, pat: (Pat, u32), ty: (Ty, u32)) -> Result<(Pat, u32), NoMemory>
     ensures { IfOk result (λ x. x ≡ grammar.typed_of pat ty) }
 {
+    let height = above(pat.1, ty.1)?;
     let place = pat_place(&pat.0);
-    match boxed_above(alloc, pat, ty.1) {
-        Ok((pat, height)) => Ok((Pat::PTyped(place, pat, ty.0), height)),
-        Err(error) => {
-            drop(ty);
-            Err(error)
-        }
-    }
+    let pat = Boxed::new(alloc, pat.0)?;
+    Ok((Pat::PTyped(place, pat, ty.0), height))
 }
 
 /// `x`
@@ -173,12 +198,14 @@ pub fn typed_pun(
     ensures { IfOk result (λ x. x ≡ rows.typed_field vid ty pat) }
 {
     match pat {
-        None => over(PField::Pun(vid.0, vid, Some(ty.0), None), ty.1, 0),
-        Some(pat) => over(
-            PField::Pun(vid.0, vid, Some(ty.0), Some(pat.0)),
-            ty.1,
-            pat.1,
-        ),
+        None => {
+            let height = above(ty.1, 0)?;
+            Ok((PField::Pun(vid.0, vid, Some(ty.0), None), height))
+        }
+        Some(pat) => {
+            let height = above(ty.1, pat.1)?;
+            Ok((PField::Pun(vid.0, vid, Some(ty.0), Some(pat.0)), height))
+        }
     }
 }
 
@@ -186,14 +213,16 @@ pub fn typed_pun(
 pub fn layered_pun(vid: Ident, pat: (Pat, u32)) -> Result<(PField, u32), NoMemory>
     ensures { IfOk result (λ x. x ≡ rows.layered_field vid pat) }
 {
-    over(PField::Pun(vid.0, vid, None, Some(pat.0)), pat.1, 0)
+    let height = above(pat.1, 0)?;
+    Ok((PField::Pun(vid.0, vid, None, Some(pat.0)), height))
 }
 
 /// `a = p`
 pub fn named(label: Label, pat: (Pat, u32)) -> Result<(PField, u32), NoMemory>
     ensures { IfOk result (λ x. x ≡ grammar.named_of (label, pat)) }
 {
-    over(PField::Named(label.0, label, pat.0), pat.1, 0)
+    let height = above(pat.1, 0)?;
+    Ok((PField::Named(label.0, label, pat.0), height))
 }
 
 fn is_bare_atom(atom: &AtPat) -> bool
@@ -229,22 +258,13 @@ fn bare_atom(
 {
     match atom {
         AtPat::PId(_, op, name) => match name.1.parts() {
-            [only] => match Name::new(alloc, only.bytes()) {
-                Ok(vid) => Ok(Some((op, (name.0, vid), ty))),
-                Err(error) => {
-                    drop(ty);
-                    Err(error)
-                }
-            },
-            _ => {
-                drop(ty);
-                Ok(None)
+            [only] => {
+                let vid = (name.0, Name::new(alloc, only.bytes())?);
+                Ok(Some((op, vid, ty)))
             }
+            _ => Ok(None),
         },
-        other => {
-            drop((ty, other));
-            Ok(None)
-        }
+        _ => Ok(None),
     }
 }
 
@@ -255,15 +275,9 @@ fn bare(alloc: Global, pat: Pat) -> Result<Option<(bool, Ident, Option<Ty>)>, No
         Pat::PAtom(_, atom) => bare_atom(alloc, None, atom),
         Pat::PTyped(_, inner, ty) => match inner.into_inner() {
             Pat::PAtom(_, atom) => bare_atom(alloc, Some(ty), atom),
-            other => {
-                drop((ty, other));
-                Ok(None)
-            }
+            _ => Ok(None),
         },
-        other => {
-            drop(other);
-            Ok(None)
-        }
+        _ => Ok(None),
     }
 }
 
@@ -277,13 +291,10 @@ fn layer_node(
 {
     match bare {
         None => Ok(inner),
-        Some((op, vid, ty)) => match Boxed::new(alloc, inner) {
-            Ok(inner) => Ok(Pat::Layer(place, op, vid, ty, inner)),
-            Err(error) => {
-                drop(ty);
-                Err(error)
-            }
-        },
+        Some((op, vid, ty)) => {
+            let inner = Boxed::new(alloc, inner)?;
+            Ok(Pat::Layer(place, op, vid, ty, inner))
+        }
     }
 }
 
@@ -291,20 +302,14 @@ fn layer(alloc: Global, pat: Pat, inner: Pat) -> Result<Pat, NoMemory>
     ensures { IfOk result (λ x. x ≡ grammar.layer_in (grammar.pat_place pat) (rows.bare_of pat) inner) }
 {
     let place = pat_place(&pat);
-    match bare(alloc, pat) {
-        Ok(bare) => layer_node(alloc, place, bare, inner),
-        Err(error) => {
-            drop(inner);
-            Err(error)
-        }
-    }
+    let bare = bare(alloc, pat)?;
+    layer_node(alloc, place, bare, inner)
 }
 
 /// `x as p`, `x : t as p`
 pub fn layered(alloc: Global, pat: (Pat, u32), inner: (Pat, u32)) -> Result<(Pat, u32), NoMemory>
     ensures { IfOk result (λ x. x ≡ grammar.layer_of pat inner) }
 {
-    let node = layer(alloc, pat.0, inner.0)?;
-    let (node, upper) = over(node, inner.1, 0)?;
-    Ok((node, pat.1.max(upper)))
+    let height = pat.1.max(above(inner.1, 0)?);
+    Ok((layer(alloc, pat.0, inner.0)?, height))
 }

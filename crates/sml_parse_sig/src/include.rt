@@ -60,15 +60,8 @@ impl<'a, F: Fn(Global, u32, &'a [Token]) -> Read<'a, (Spec, u32)>> Inside<F> {
         ensures { Gives (λ x. (x.0, x.1.now)) result (mapped (λ x. read.included_of (place, x)) (levels.include room) tokens.now) }
     {
         let (found, rest) = self.lean(room, tokens)?;
-        let (others, rest) = match further(self.alloc, &found.0, rest) {
-            Ok(read) => read,
-            Err(error) => {
-                drop(found);
-                return Err(error);
-            }
-        };
+        let (others, rest) = further(self.alloc, &found.0, rest)?;
         if goes_in_spec(rest) {
-            drop(found);
             return Err(ReadError::Refused(Code::Grammar, rest));
         }
         Ok((included(self.alloc, place, found, others)?, rest))

@@ -346,14 +346,7 @@ pub fn grown<'a>(
     let mut rest = tokens;
     'types: while goes_on(rest) {
         let needed = needed(found.1)?;
-        let ends = ends_with_where(&found.0);
-        let (more, after) = match suffix(alloc, ends, needed, room, rest) {
-            Ok(read) => read,
-            Err(error) => {
-                drop(found);
-                return Err(error);
-            }
-        };
+        let (more, after) = suffix(alloc, ends_with_where(&found.0), needed, room, rest)?;
         found = suffixed(alloc, found, more)?;
         rest = after;
     }

@@ -6,10 +6,9 @@ ghost use Rattle.sml_grammar_sig.specs.ReadSigs as read;
 
 use crate::real::Suffix;
 use sml_ast::{Ident, SigExp, Spec};
-use sml_nodes::{boxed_above, over};
 use sml_scan::above;
 use std::alloc::Global;
-use tl_text::{List, NoMemory, Place};
+use tl_text::{Boxed, List, NoMemory, Place};
 
 /// The place of the first token.
 fn place_of(sig: &SigExp) -> Place
@@ -71,16 +70,9 @@ pub fn suffixed(
             None => place,
         },
     };
-    match boxed_above(alloc, sig, 0) {
-        Ok((inner, height)) => Ok((
-            SigExp::Real(place, word, inner, vars, name, ty),
-            height.max(least),
-        )),
-        Err(error) => {
-            drop((vars, name, ty));
-            Err(error)
-        }
-    }
+    let height = above(sig.1, 0)?.max(least);
+    let inner = Boxed::new(alloc, sig.0)?;
+    Ok((SigExp::Real(place, word, inner, vars, name, ty), height))
 }
 
 /// Whether it is an identifier alone.
@@ -124,15 +116,12 @@ pub fn included(
 {
     match others {
         None => {
-            let (inner, height) = boxed_above(alloc, sig, 0)?;
-            Ok((Spec::Incl(place, inner), height))
+            let height = above(sig.1, 0)?;
+            Ok((Spec::Incl(place, Boxed::new(alloc, sig.0)?), height))
         }
         Some(others) => match sig.0 {
             SigExp::SigAt(_, name) => Ok((identifiers(place, name, others)?, 1)),
-            other => {
-                drop(other);
-                over(Spec::Incls(place, others), sig.1, 0)
-            }
+            _ => Ok((Spec::Incls(place, others), above(sig.1, 0)?)),
         },
     }
 }

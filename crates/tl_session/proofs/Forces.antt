@@ -6,7 +6,7 @@ use Rattle.sml_ast.specs.declared.program.Program.{Program}
 use Rattle.sml_fix.specs.Fixities.{Settings, start}
 use Rattle.sml_front.specs.Sources.{IsSourceUnder}
 use Rattle.built_items.specs.declared.item.SourceItem.{SourceItem}
-use Rattle.tl_session.specs.Faithful.{AreRead}
+use Rattle.tl_session.specs.Faithful.{IsItems, AreRead}
 use Rattle.tl_session.specs.Kept.{Source}
 use Rattle.tl_session.specs.Refused.{InForce, Fails, FailsUnder, LeavesOnly, source_limit, total_bytes, total_limit}
 use Rattle.tl_session.specs.Sessions.{AreInForce}

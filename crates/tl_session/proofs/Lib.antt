@@ -17,4 +17,3 @@ pub mod Forces
 pub mod SourceItems
 pub mod Translation
 pub mod SessionLemmas
-pub mod Adding

@@ -5,6 +5,7 @@ use Rattle.tl_text.specs.declared.code.Code.TheVariants.{Unbuilt}
 use Rattle.tl_text.specs.declared.place.Place.{Place}
 use Rattle.tl_text.specs.declared.fault.Fault.{Fault}
 use Rattle.tl_text.specs.declared.fault.Fault.TheVariants as fault
+use Rattle.tl_text.specs.declared.fault.Refusal.{Refusal}
 use Rattle.sml_ast.specs.declared.program.Program.{Program}
 use Rattle.sml_ast.specs.declared.bare_program.BareProgram.{BareProgram}
 use Rattle.sml_fix.specs.Fixities.{Settings, settings}
@@ -13,6 +14,7 @@ use Rattle.sml_scan.specs.Faults.{RefusesAs}
 use Rattle.sml_front.specs.Sources.{FoundUnder, GivesRefusal, GivesSource, IsSourceUnder, RefusedUnder}
 use Rattle.built_items.specs.declared.item.SourceItem.{SourceItem}
 use Rattle.built_items.specs.Built.{AreItems, IfRefused, IsUnbuilt, read_tops, tops_of}
+use Rattle.tl_session.specs.Answers.{AnswersFailure}
 use Rattle.tl_session.specs.Refused.{FailsUnbuilt, FailsUnder, LeavesOnly}
 
 no_both : (r : Result (List SourceItem) Place) (items : List SourceItem) (place : Place) → r ≡ Ok items → r ≡ Err place → ⊥

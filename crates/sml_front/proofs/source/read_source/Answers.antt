@@ -49,11 +49,11 @@ returns-in-Err-clause-refuses c =
 
 pub returns-clause-found : goal.returns-clause-found
 returns-clause-found c =
-    source_found c.args.number (told c.args.fix.now) c.args.bytes.now (settings c.args.fix.now) (told_leaves c.args.fix.now) c.in_ok-tokens.tokens c.in_ok-tokens.ensures.accepted c.in_ok-tokens.ensures.only_tokens c.in_ok-tokens.ensures.only_refusal c.in_ok-program.program c.in_ok-program.left (settings c.in_ok-program.left) c.in_ok-program.ensures.found c.in_default.ensures.exact c.in_ok-bare.bare c.in_ok-bare.ensures
+    source_found c.args.number (told c.args.fix.now) c.args.bytes.now (settings c.args.fix.now) (told_leaves c.args.fix.now) c.in_ok-tokens.tokens c.in_ok-tokens.ensures.accepted c.in_ok-tokens.ensures.only_tokens c.in_ok-tokens.ensures.only_refusal c.in_ok-program.program c.in_ok-program.left (settings c.in_ok-program.left) c.in_ok-program.ensures.found c.in_default.ensures.exact c.in_ok-derive.field-0 c.in_ok-derive.ensures
 
 pub returns-clause-only : goal.returns-clause-only
 returns-clause-only c =
-    source_only c.args.number (told c.args.fix.now) c.args.bytes.now (settings c.args.fix.now) (told_leaves c.args.fix.now) c.in_ok-tokens.tokens c.in_ok-tokens.ensures.accepted c.in_ok-tokens.ensures.only_tokens c.in_ok-tokens.ensures.only_refusal c.in_ok-program.program c.in_ok-program.left (settings c.in_ok-program.left) c.in_ok-program.ensures.found c.in_default.ensures.exact c.in_ok-bare.bare c.in_ok-bare.ensures c.in_ok-program.ensures.only
+    source_only c.args.number (told c.args.fix.now) c.args.bytes.now (settings c.args.fix.now) (told_leaves c.args.fix.now) c.in_ok-tokens.tokens c.in_ok-tokens.ensures.accepted c.in_ok-tokens.ensures.only_tokens c.in_ok-tokens.ensures.only_refusal c.in_ok-program.program c.in_ok-program.left (settings c.in_ok-program.left) c.in_ok-program.ensures.found c.in_default.ensures.exact c.in_ok-derive.field-0 c.in_ok-derive.ensures c.in_ok-program.ensures.only
 
 pub returns-clause-refuses : goal.returns-clause-refuses
 returns-clause-refuses c =

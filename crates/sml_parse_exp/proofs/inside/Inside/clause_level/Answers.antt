@@ -11,12 +11,13 @@ returns-in_err-head-clause-gives g c =
     rw (p.1, p.2) (clause_first_fails c.args.scope.now c.has_operator-some_operator.result c.has_operator-some_operator.ensures (settings c.fixities.result.now) c.fixities.ensures c.fixities-2.result.now c.fixities-2.ensures c.args.room c.args.tokens.now (sym c.begins_head.ensures ∙ c.if-not-begins_head.false) (let le = c.if-room-lt2.false in omega arith)
     c.in_err-head.field-0.0 c.in_err-head.ensures)
 
-pub returns-in-Err-clause-gives : goal.returns-in-Err-clause-gives
-returns-in-Err-clause-gives g c =
-    clause_fails c.args.scope.now c.has_operator-some_operator.result c.has_operator-some_operator.ensures (settings c.fixities.result.now) c.fixities.ensures c.fixities-2.result.now c.fixities-2.ensures c.args.room c.args.tokens.now (sym c.begins_head.ensures ∙ c.if-not-begins_head.false) (let le = c.if-room-lt2.false in omega arith)
-    ((c.in_ok-head.head, c.in_ok-head.ty), c.in_ok-head.height) c.in_ok-head.rest.now c.in_ok-head.ensures c.in-Err.error c.in-Err.ensures.gives
+pub returns-in_err-body-clause-gives : goal.returns-in_err-body-clause-gives
+returns-in_err-body-clause-gives g c =
+    let p = err_from_is_err_and c.from_residual-in_err-body.result c.from_residual-in_err-body.ensures.1 in
+    rw (p.1, p.2) (clause_fails c.args.scope.now c.has_operator-some_operator.result c.has_operator-some_operator.ensures (settings c.fixities.result.now) c.fixities.ensures c.fixities-2.result.now c.fixities-2.ensures c.args.room c.args.tokens.now (sym c.begins_head.ensures ∙ c.if-not-begins_head.false) (let le = c.if-room-lt2.false in omega arith)
+    ((c.in_ok-head.head, c.in_ok-head.ty), c.in_ok-head.height) c.in_ok-head.rest.now c.in_ok-head.ensures c.in_err-body.field-0.0 c.in_err-body.ensures.gives)
 
-pub returns-in_ok-clause-in-Ok-clause-gives : goal.returns-in_ok-clause-in-Ok-clause-gives
-returns-in_ok-clause-in-Ok-clause-gives g c =
-    rw c.in_ok-clause-in-Ok.ensures (clause_made c.args.scope.now c.has_operator-some_operator.result c.has_operator-some_operator.ensures (settings c.fixities.result.now) c.fixities.ensures c.fixities-2.result.now c.fixities-2.ensures c.args.room c.args.tokens.now (sym c.begins_head.ensures ∙ c.if-not-begins_head.false) (let le = c.if-room-lt2.false in omega arith)
-    ((c.in_ok-head.head, c.in_ok-head.ty), c.in_ok-head.height) c.in_ok-head.rest.now c.in_ok-head.ensures (trees.seen c.in-Ok.body) c.in-Ok.rest.now c.in-Ok.ensures.gives)
+pub returns-clause-gives : goal.returns-clause-gives
+returns-clause-gives g c =
+    rw c.in_ok-clause.ensures (clause_made c.args.scope.now c.has_operator-some_operator.result c.has_operator-some_operator.ensures (settings c.fixities.result.now) c.fixities.ensures c.fixities-2.result.now c.fixities-2.ensures c.args.room c.args.tokens.now (sym c.begins_head.ensures ∙ c.if-not-begins_head.false) (let le = c.if-room-lt2.false in omega arith)
+    ((c.in_ok-head.head, c.in_ok-head.ty), c.in_ok-head.height) c.in_ok-head.rest.now c.in_ok-head.ensures (trees.seen c.in_ok-body.body) c.in_ok-body.rest.now c.in_ok-body.ensures.gives)

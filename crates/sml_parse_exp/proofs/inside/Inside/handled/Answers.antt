@@ -29,16 +29,17 @@ returns-then-not-is_near-clause-gives g c = once_barred (is HANDLE) is_near (at_
 pub returns-then-room-least-clause-gives : goal.returns-then-room-least-clause-gives
 returns-then-room-least-clause-gives g c = once_deep (is HANDLE) is_near (at_least 3) handle_of (levels.handle_suffix c.args.scope.now c.args.room) c.args.room (levels.or_else c.args.scope.now c.args.room) c.args.tokens.now c.in_ok-found.rest.now (trees.seen c.in_ok-found.found) c.in_ok-found.ensures.gives (sym c.is_next.ensures ∙ c.if-not-is_next.false) (sym c.is_near.ensures ∙ c.if-not-is_near.false) (let e = c.higher-least.ensures in let lt = c.if-room-least.true in omega arith)
 
-pub returns-in-Err-clause-gives : goal.returns-in-Err-clause-gives
+pub returns-in_err-rules-clause-gives : goal.returns-in_err-rules-clause-gives
 unfolding Rattle.sml_ast.specs.declared.exp.AtExp.TheViews.roll-Exp denote.Hole.Carrier.roll
-returns-in-Err-clause-gives g c =
+returns-in_err-rules-clause-gives g c =
+    let p = err_from_is_err_and c.from_residual-in_err-rules.result c.from_residual-in_err-rules.ensures.1 in
     let more = once_more (is HANDLE) is_near (at_least 3) handle_of (levels.handle_suffix c.args.scope.now c.args.room) c.args.room (levels.or_else c.args.scope.now c.args.room) c.args.tokens.now c.in_ok-found.rest.now (trees.seen c.in_ok-found.found) c.in_ok-found.ensures.gives (sym c.is_next.ensures ∙ c.if-not-is_next.false) (sym c.is_near.ensures ∙ c.if-not-is_near.false) (let e = c.higher-least.ensures in let le = c.if-room-least.false in omega arith) in
-    node_fails (trees.handled (trees.seen c.in_ok-found.found)) c.in-Err.error _ _ (more ∙ sym (mapped_mapped trees.rules_of (trees.handled (trees.seen c.in_ok-found.found)) (levels.handle_suffix c.args.scope.now c.args.room) c.in_ok-found.rest.now))
-    (subst (λ (cs : Changes). Fails c.in-Err.error (mapped trees.rules_of (levels.handle_suffix cs c.args.room) c.in_ok-found.rest.now)) c.in_ok-found.ensures.keeps c.in-Err.ensures.gives)
+    rw (p.1, p.2) (node_fails (trees.handled (trees.seen c.in_ok-found.found)) c.in_err-rules.field-0.0 _ _ (more ∙ sym (mapped_mapped trees.rules_of (trees.handled (trees.seen c.in_ok-found.found)) (levels.handle_suffix c.args.scope.now c.args.room) c.in_ok-found.rest.now))
+    (subst (λ (cs : Changes). Fails c.in_err-rules.field-0.0 (mapped trees.rules_of (levels.handle_suffix cs c.args.room) c.in_ok-found.rest.now)) c.in_ok-found.ensures.keeps c.in_err-rules.ensures.gives))
 
-pub returns-in_ok-handled-in-Ok-clause-gives : goal.returns-in_ok-handled-in-Ok-clause-gives
+pub returns-clause-gives : goal.returns-clause-gives
 unfolding Rattle.sml_ast.specs.declared.exp.AtExp.TheViews.roll-Exp denote.Hole.Carrier.roll
-returns-in_ok-handled-in-Ok-clause-gives g c =
+returns-clause-gives g c =
     let more = once_more (is HANDLE) is_near (at_least 3) handle_of (levels.handle_suffix c.args.scope.now c.args.room) c.args.room (levels.or_else c.args.scope.now c.args.room) c.args.tokens.now c.in_ok-found.rest.now (trees.seen c.in_ok-found.found) c.in_ok-found.ensures.gives (sym c.is_next.ensures ∙ c.if-not-is_next.false) (sym c.is_near.ensures ∙ c.if-not-is_near.false) (let e = c.higher-least.ensures in let le = c.if-room-least.false in omega arith) in
     more ∙ (sym (mapped_mapped trees.rules_of (trees.handled (trees.seen c.in_ok-found.found)) (levels.handle_suffix c.args.scope.now c.args.room) c.in_ok-found.rest.now)
-    ∙ (ap (remade (trees.handled (trees.seen c.in_ok-found.found))) (ap (λ (cs : Changes). mapped trees.rules_of (levels.handle_suffix cs c.args.room) c.in_ok-found.rest.now) (sym c.in_ok-found.ensures.keeps) ∙ c.in-Ok.ensures.gives) ∙ ap (λ (x : Ex). Ok (x, c.in-Ok.rest.now)) (sym c.in_ok-handled-in-Ok.ensures)))
+    ∙ (ap (remade (trees.handled (trees.seen c.in_ok-found.found))) (ap (λ (cs : Changes). mapped trees.rules_of (levels.handle_suffix cs c.args.room) c.in_ok-found.rest.now) (sym c.in_ok-found.ensures.keeps) ∙ c.in_ok-rules.ensures.gives) ∙ ap (λ (x : Ex). Ok (x, c.in_ok-rules.rest.now)) (sym c.in_ok-handled.ensures)))

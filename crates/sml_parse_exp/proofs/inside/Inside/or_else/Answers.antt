@@ -33,18 +33,19 @@ returns-then-room-least-clause-gives g c = near_deep (is ORELSE) is_near (at_lea
 
 pub operands-preserved : goal.operands-preserved
 operands-preserved g c = (
-  near_turn (is ORELSE) is_near (at_least 2) or_of (levels.or_suffix c.args.scope.now c.args.room) c.args.room (or_suffix_less c.args.scope.now c.args.room) (trees.seen c.operands.found) c.operands.rest.now _ c.operands.invariant.0 (sym c.is_next.ensures ∙ c.operands-test.true) (sym c.is_near.ensures ∙ c.if-not-is_near.false) (trees.seen c.in-Ok.read.0, c.in-Ok.read.1.now) (let e = c.higher-least.ensures in let le = c.if-room-least.false in omega arith) (ap (λ (cs : Changes). levels.or_suffix cs c.args.room c.operands.rest.now) (sym c.operands.invariant.1) ∙ c.in-Ok.ensures.gives)
-      ∙ ap (λ (x : Ex). ended or_of x (steps (is ORELSE) or_of (next (is ORELSE) is_near (at_least 2) or_of (levels.or_suffix c.args.scope.now c.args.room) c.args.room) x c.in-Ok.read.1.now)) (sym c.in_ok-found-2.ensures),
-  c.in-Ok.ensures.keeps ∙ c.operands.invariant.1,
+  near_turn (is ORELSE) is_near (at_least 2) or_of (levels.or_suffix c.args.scope.now c.args.room) c.args.room (or_suffix_less c.args.scope.now c.args.room) (trees.seen c.operands.found) c.operands.rest.now _ c.operands.invariant.0 (sym c.is_next.ensures ∙ c.operands-test.true) (sym c.is_near.ensures ∙ c.if-not-is_near.false) (trees.seen c.in_ok-right.right, c.in_ok-right.after.now) (let e = c.higher-least.ensures in let le = c.if-room-least.false in omega arith) (ap (λ (cs : Changes). levels.or_suffix cs c.args.room c.operands.rest.now) (sym c.operands.invariant.1) ∙ c.in_ok-right.ensures.gives)
+      ∙ ap (λ (x : Ex). ended or_of x (steps (is ORELSE) or_of (next (is ORELSE) is_near (at_least 2) or_of (levels.or_suffix c.args.scope.now c.args.room) c.args.room) x c.in_ok-right.after.now)) (sym c.in_ok-found-2.ensures),
+  c.in_ok-right.ensures.keeps ∙ c.operands.invariant.1,
 )
 
-pub returns-in-Err-clause-gives : goal.returns-in-Err-clause-gives
-returns-in-Err-clause-gives g c =
-    near_fails (is ORELSE) is_near (at_least 2) or_of (levels.or_suffix c.args.scope.now c.args.room) c.args.room (or_suffix_less c.args.scope.now c.args.room) (trees.seen c.operands.found) c.operands.rest.now _ c.operands.invariant.0 (sym c.is_next.ensures ∙ c.operands-test.true) (sym c.is_near.ensures ∙ c.if-not-is_near.false) c.in-Err.error (let e = c.higher-least.ensures in let le = c.if-room-least.false in omega arith)
-    (subst (λ (cs : Changes). Fails c.in-Err.error (levels.or_suffix cs c.args.room c.operands.rest.now)) c.operands.invariant.1 c.in-Err.ensures.gives)
+pub returns-in_err-right-clause-gives : goal.returns-in_err-right-clause-gives
+returns-in_err-right-clause-gives g c =
+    let p = err_from_is_err_and c.from_residual-in_err-right.result c.from_residual-in_err-right.ensures.1 in
+    rw (p.1, p.2) (near_fails (is ORELSE) is_near (at_least 2) or_of (levels.or_suffix c.args.scope.now c.args.room) c.args.room (or_suffix_less c.args.scope.now c.args.room) (trees.seen c.operands.found) c.operands.rest.now _ c.operands.invariant.0 (sym c.is_next.ensures ∙ c.operands-test.true) (sym c.is_near.ensures ∙ c.if-not-is_near.false) c.in_err-right.field-0.0 (let e = c.higher-least.ensures in let le = c.if-room-least.false in omega arith)
+    (subst (λ (cs : Changes). Fails c.in_err-right.field-0.0 (levels.or_suffix cs c.args.room c.operands.rest.now)) c.operands.invariant.1 c.in_err-right.ensures.gives))
 
 pub operands-smaller : goal.operands-smaller
-operands-smaller g c = or_suffix_less c.args.scope.now c.args.room c.operands.rest.now (trees.seen c.in-Ok.read.0, c.in-Ok.read.1.now) (ap (λ (cs : Changes). levels.or_suffix cs c.args.room c.operands.rest.now) (sym c.operands.invariant.1) ∙ c.in-Ok.ensures.gives)
+operands-smaller g c = or_suffix_less c.args.scope.now c.args.room c.operands.rest.now (trees.seen c.in_ok-right.right, c.in_ok-right.after.now) (ap (λ (cs : Changes). levels.or_suffix cs c.args.room c.operands.rest.now) (sym c.operands.invariant.1) ∙ c.in_ok-right.ensures.gives)
 
 pub returns-clause-gives : goal.returns-clause-gives
 returns-clause-gives g c = near_end (is ORELSE) is_near (at_least 2) or_of (levels.or_suffix c.args.scope.now c.args.room) c.args.room (or_suffix_less c.args.scope.now c.args.room) (trees.seen c.operands.found) c.operands.rest.now _ c.operands.invariant.0 (sym c.is_next.ensures ∙ c.operands-test.false)

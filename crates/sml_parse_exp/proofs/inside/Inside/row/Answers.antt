@@ -22,25 +22,26 @@ operators-init g c = (
   c.in_ok-found.ensures.keeps,
 )
 
-pub returns-in-Err-clause-gives : goal.returns-in-Err-clause-gives
-returns-in-Err-clause-gives g c =
+pub returns-in_err-more-clause-gives : goal.returns-in_err-more-clause-gives
+returns-in_err-more-clause-gives g c =
+    let p = err_from_is_err_and c.from_residual-in_err-more.result c.from_residual-in_err-more.ensures.1 in
     let next = ap (λ (cs : Changes). head_is (levels.taken (fixed cs) c.args.floor) (first c.operators.rest.now)) (sym c.operators.invariant.2) ∙ (sym c.operators.invariant.1 ∙ c.operators-test.true) in
-    row_fails c.args.scope.now c.args.room c.args.floor _ (trees.seen c.operators.found) c.operators.rest.now c.operators.invariant.0 c.in-Err.error next
-    (subst (λ (cs : Changes). Fails c.in-Err.error (levels.operation cs c.args.room c.args.floor (trees.seen c.operators.found) c.operators.rest.now)) c.operators.invariant.2 c.in-Err.ensures.gives)
+    rw (p.1, p.2) (row_fails c.args.scope.now c.args.room c.args.floor _ (trees.seen c.operators.found) c.operators.rest.now c.operators.invariant.0 c.in_err-more.field-0.0 next
+    (subst (λ (cs : Changes). Fails c.in_err-more.field-0.0 (levels.operation cs c.args.room c.args.floor (trees.seen c.operators.found) c.operators.rest.now)) c.operators.invariant.2 c.in_err-more.ensures.gives))
 
 pub operators-smaller : goal.operators-smaller
 operators-smaller g c =
-    row_less c.args.scope.now c.args.room c.args.floor (trees.seen c.operators.found) c.operators.rest.now ((c.in-Ok.read.0.0, trees.seen c.in-Ok.read.0.1), c.in-Ok.read.1.now)
-    (ap (λ (cs : Changes). levels.operation cs c.args.room c.args.floor (trees.seen c.operators.found) c.operators.rest.now) (sym c.operators.invariant.2) ∙ c.in-Ok.ensures.gives)
+    row_less c.args.scope.now c.args.room c.args.floor (trees.seen c.operators.found) c.operators.rest.now ((c.in_ok-more.more.0, trees.seen c.in_ok-more.more.1), c.in_ok-more.after.now)
+    (ap (λ (cs : Changes). levels.operation cs c.args.room c.args.floor (trees.seen c.operators.found) c.operators.rest.now) (sym c.operators.invariant.2) ∙ c.in_ok-more.ensures.gives)
 
 pub operators-preserved : goal.operators-preserved
 operators-preserved g c =
     let next = ap (λ (cs : Changes). head_is (levels.taken (fixed cs) c.args.floor) (first c.operators.rest.now)) (sym c.operators.invariant.2) ∙ (sym c.operators.invariant.1 ∙ c.operators-test.true) in (
-      row_turn c.args.scope.now c.args.room c.args.floor _ (trees.seen c.operators.found) c.operators.rest.now c.operators.invariant.0 ((c.in-Ok.read.0.0, trees.seen c.in-Ok.read.0.1), c.in-Ok.read.1.now) next
-          (ap (λ (cs : Changes). levels.operation cs c.args.room c.args.floor (trees.seen c.operators.found) c.operators.rest.now) (sym c.operators.invariant.2) ∙ c.in-Ok.ensures.gives)
-          ∙ ap (λ (x : Ex). row_rest c.args.scope.now c.args.room c.args.floor x c.in-Ok.read.1.now) (sym c.in_ok-found-2.ensures),
-      c.in_ok-taken-2.ensures ∙ ap (λ (f : Settings). head_is (levels.taken f c.args.floor) (first c.in-Ok.read.1.now)) c.fixities-in-operators.ensures,
-      c.in-Ok.ensures.keeps ∙ c.operators.invariant.2,
+      row_turn c.args.scope.now c.args.room c.args.floor _ (trees.seen c.operators.found) c.operators.rest.now c.operators.invariant.0 ((c.in_ok-more.more.0, trees.seen c.in_ok-more.more.1), c.in_ok-more.after.now) next
+          (ap (λ (cs : Changes). levels.operation cs c.args.room c.args.floor (trees.seen c.operators.found) c.operators.rest.now) (sym c.operators.invariant.2) ∙ c.in_ok-more.ensures.gives)
+          ∙ ap (λ (x : Ex). row_rest c.args.scope.now c.args.room c.args.floor x c.in_ok-more.after.now) (sym c.in_ok-found-2.ensures),
+      c.in_ok-taken-2.ensures ∙ ap (λ (f : Settings). head_is (levels.taken f c.args.floor) (first c.in_ok-more.after.now)) c.fixities-in-operators.ensures,
+      c.in_ok-more.ensures.keeps ∙ c.operators.invariant.2,
     )
 
 pub returns-clause-gives : goal.returns-clause-gives

@@ -33,17 +33,18 @@ returns-then-room-least-clause-gives g c =
 
 pub types-preserved : goal.types-preserved
 types-preserved g c = (
-  grown_turn (is COLON) (at_least 2) typed_of (levels.annotation c.args.room) c.args.room (annotation_less c.args.room) (trees.seen c.types.found) c.types.rest.now (c.in-Ok.read.0, c.in-Ok.read.1.now) _ c.types.invariant.0 (sym c.is_next.ensures ∙ c.types-test.true) (let e = c.higher-least.ensures in let le = c.if-room-least.false in omega arith) c.in-Ok.ensures
-      ∙ ap (λ (x : Ex). ended typed_of x (steps (is COLON) typed_of (next (is COLON) (at_least 2) typed_of (levels.annotation c.args.room) c.args.room) x c.in-Ok.read.1.now)) (sym c.in_ok-found-2.ensures),
+  grown_turn (is COLON) (at_least 2) typed_of (levels.annotation c.args.room) c.args.room (annotation_less c.args.room) (trees.seen c.types.found) c.types.rest.now (c.in_ok-ty.ty, c.in_ok-ty.after.now) _ c.types.invariant.0 (sym c.is_next.ensures ∙ c.types-test.true) (let e = c.higher-least.ensures in let le = c.if-room-least.false in omega arith) c.in_ok-ty.ensures
+      ∙ ap (λ (x : Ex). ended typed_of x (steps (is COLON) typed_of (next (is COLON) (at_least 2) typed_of (levels.annotation c.args.room) c.args.room) x c.in_ok-ty.after.now)) (sym c.in_ok-found-2.ensures),
   c.types.invariant.1,
 )
 
-pub returns-in-Err-clause-gives : goal.returns-in-Err-clause-gives
-returns-in-Err-clause-gives g c =
-    grown_fails (is COLON) (at_least 2) typed_of (levels.annotation c.args.room) c.args.room (annotation_less c.args.room) c.in-Err.error (trees.seen c.types.found) c.types.rest.now _ c.types.invariant.0 (sym c.is_next.ensures ∙ c.types-test.true) (let e = c.higher-least.ensures in let le = c.if-room-least.false in omega arith) c.in-Err.ensures
+pub returns-in_err-ty-clause-gives : goal.returns-in_err-ty-clause-gives
+returns-in_err-ty-clause-gives g c =
+    let p = err_from_is_err_and c.from_residual-in_err-ty.result c.from_residual-in_err-ty.ensures.1 in
+    rw (p.1, p.2) (grown_fails (is COLON) (at_least 2) typed_of (levels.annotation c.args.room) c.args.room (annotation_less c.args.room) c.in_err-ty.field-0.0 (trees.seen c.types.found) c.types.rest.now _ c.types.invariant.0 (sym c.is_next.ensures ∙ c.types-test.true) (let e = c.higher-least.ensures in let le = c.if-room-least.false in omega arith) c.in_err-ty.ensures)
 
 pub types-smaller : goal.types-smaller
-types-smaller g c = annotation_less c.args.room c.types.rest.now (c.in-Ok.read.0, c.in-Ok.read.1.now) c.in-Ok.ensures
+types-smaller g c = annotation_less c.args.room c.types.rest.now (c.in_ok-ty.ty, c.in_ok-ty.after.now) c.in_ok-ty.ensures
 
 pub returns-clause-gives : goal.returns-clause-gives
 returns-clause-gives g c = grown_end (is COLON) (at_least 2) typed_of (levels.annotation c.args.room) c.args.room (annotation_less c.args.room) (trees.seen c.types.found) c.types.rest.now _ c.types.invariant.0 (sym c.is_next.ensures ∙ c.types-test.false)

@@ -1,4 +1,5 @@
 use Rattle.std.proofs.Common.{sym, ap, ◌∙◌, arith}
+use Rattle.std.proofs.lemmas.Result.{err_from_is_err_and}
 use Rattle.readers.specs.Reader.{steps}
 use Rattle.readers.specs.Forms.{at_least}
 use Rattle.readers.proofs.StepLoop.{ended}
@@ -17,17 +18,18 @@ returns-then-room-least g c =
 
 pub types-preserved : goal.types-preserved
 types-preserved g c =
-    grown_turn (is COLON) (at_least 2) typed_of (levels.annotation c.args.room) c.args.room (annotation_less c.args.room) c.types.found c.types.rest.now (c.in-Ok.read.0, c.in-Ok.read.1.now) _
-    c.types.invariant (sym c.is_next.ensures ∙ c.types-test.true) (let e = c.higher-least.ensures in let le = c.if-room-least.false in omega arith) c.in-Ok.ensures
-    ∙ ap (λ (x : Pt). ended typed_of x (steps (is COLON) typed_of (next (is COLON) (at_least 2) typed_of (levels.annotation c.args.room) c.args.room) x c.in-Ok.read.1.now)) (sym c.in_ok-found-2.ensures)
+    grown_turn (is COLON) (at_least 2) typed_of (levels.annotation c.args.room) c.args.room (annotation_less c.args.room) c.types.found c.types.rest.now (c.in_ok-ty.ty, c.in_ok-ty.after.now) _
+    c.types.invariant (sym c.is_next.ensures ∙ c.types-test.true) (let e = c.higher-least.ensures in let le = c.if-room-least.false in omega arith) c.in_ok-ty.ensures
+    ∙ ap (λ (x : Pt). ended typed_of x (steps (is COLON) typed_of (next (is COLON) (at_least 2) typed_of (levels.annotation c.args.room) c.args.room) x c.in_ok-ty.after.now)) (sym c.in_ok-found-2.ensures)
 
-pub returns-in-Err : goal.returns-in-Err
-returns-in-Err g c =
-    grown_fails (is COLON) (at_least 2) typed_of (levels.annotation c.args.room) c.args.room (annotation_less c.args.room) c.in-Err.error c.types.found c.types.rest.now _ c.types.invariant
-    (sym c.is_next.ensures ∙ c.types-test.true) (let e = c.higher-least.ensures in let le = c.if-room-least.false in omega arith) c.in-Err.ensures
+pub returns-in_err-ty : goal.returns-in_err-ty
+returns-in_err-ty g c =
+    let p = err_from_is_err_and c.from_residual-in_err-ty.result c.from_residual-in_err-ty.ensures.1 in
+    rw (p.1, p.2) (grown_fails (is COLON) (at_least 2) typed_of (levels.annotation c.args.room) c.args.room (annotation_less c.args.room) c.in_err-ty.field-0.0 c.types.found c.types.rest.now _ c.types.invariant
+    (sym c.is_next.ensures ∙ c.types-test.true) (let e = c.higher-least.ensures in let le = c.if-room-least.false in omega arith) c.in_err-ty.ensures)
 
 pub types-smaller : goal.types-smaller
-types-smaller g c = annotation_less c.args.room c.types.rest.now (c.in-Ok.read.0, c.in-Ok.read.1.now) c.in-Ok.ensures
+types-smaller g c = annotation_less c.args.room c.types.rest.now (c.in_ok-ty.ty, c.in_ok-ty.after.now) c.in_ok-ty.ensures
 
 pub returns : goal.returns
 returns g c =
