@@ -1,5 +1,3 @@
-ghost use Rattle.std.specs.Prelude.{◌≤◌};
-
 use crate::end::{End, status};
 use crate::run::run;
 use src_io::{MemSink, MemSources};
@@ -89,14 +87,12 @@ pub fn joined(alloc: Global, parts: &[&str]) -> Result<Vec<u8>, Fail> {
 }
 
 /// The end at a source that is refused at the first line.
-pub fn refused(source: u32, col: u32, code: Code) -> End
-    requires { 1 ≤ col }
-{
+pub fn refused(source: u32, col: u32, code: Code) -> End {
     let place = Place {
         source,
         line: 1,
         col,
-        byte: col - 1,
+        byte: col.saturating_sub(1),
     };
     End::Refused(Refusal { place, code })
 }
