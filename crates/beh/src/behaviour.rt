@@ -8,7 +8,7 @@ use tl_text::{List, Name};
 pub type Text = List<u8>;
 
 /// How a run stands.
-#[derive(Debug, Drop)]
+#[derive(Debug)]
 pub enum Ending {
     /// It came to its end.
     Ended,
@@ -18,11 +18,30 @@ pub enum Ending {
     More,
 }
 
+impl Drop for Ending {
+    fn drop(self) {
+        match self {
+            Ending::Ended => {}
+            Ending::Raised(_) => {}
+            Ending::More => {}
+        }
+    }
+}
+
 /// What is seen of a run, or of a meaning: the output so far, and how it stands.
-#[derive(Debug, Drop)]
+#[derive(Debug)]
 pub struct Behaviour {
     pub output: Text,
     pub ending: Ending,
+}
+
+impl Drop for Behaviour {
+    fn drop(self) {
+        let Behaviour {
+            output: _,
+            ending: _,
+        } = self;
+    }
 }
 
 /// Whether `long` goes on from `short`: its output begins with that of `short`, and where `short`

@@ -2,15 +2,21 @@ use crate::{APat, ATy, MSig, OTy, OcLit, Pat, Rest, TDef};
 use tl_text::{Boxed, List, Name, Path};
 
 /// A whole text (the manual, section 11.11: the definitions of a structure).
-#[derive(Drop)]
 pub enum Text {
     /// The items, one after another.
     All(List<Item>),
 }
 
+impl Drop for Text {
+    fn drop(self) {
+        match self {
+            Text::All(_) => {}
+        }
+    }
+}
+
 /// An item of a structure or of a text.
 #[cycle(expressions)]
-#[derive(Drop)]
 pub enum Item {
     /// `let p = e`.
     Let(Pat, Simple),
@@ -30,9 +36,24 @@ pub enum Item {
     Functor(Name, Name, MSig, Boxed<MExp>),
 }
 
+impl Drop for Item {
+    #[cycle(expressions)]
+    fn drop(self) {
+        match self {
+            Item::Let(_, _) => {}
+            Item::LetRec(_) => {}
+            Item::Types(_) => {}
+            Item::Exn(_, _) => {}
+            Item::ExnAs(_, _) => {}
+            Item::Module(_, _) => {}
+            Item::Sealed(_, _, _) => {}
+            Item::Functor(_, _, _, _) => {}
+        }
+    }
+}
+
 /// A recursive binding. Its right side is a `Fun`.
 #[cycle(expressions)]
-#[derive(Drop)]
 pub enum RBind {
     /// `f = fun ..`.
     Plain(Name, Simple),
@@ -40,9 +61,18 @@ pub enum RBind {
     Poly(Name, List<Name>, OTy, Simple),
 }
 
+impl Drop for RBind {
+    #[cycle(expressions)]
+    fn drop(self) {
+        match self {
+            RBind::Plain(_, _) => {}
+            RBind::Poly(_, _, _, _) => {}
+        }
+    }
+}
+
 /// A module expression (the manual, section 11.11).
 #[cycle(expressions)]
-#[derive(Drop)]
 pub enum MExp {
     /// `M.N`.
     MAt(Path),
@@ -52,6 +82,18 @@ pub enum MExp {
     Apply(Path, Path),
     /// `(M : sig .. end)`.
     MSeal(Boxed<MExp>, MSig),
+}
+
+impl Drop for MExp {
+    #[cycle(expressions)]
+    fn drop(self) {
+        match self {
+            MExp::MAt(_) => {}
+            MExp::Struct(_) => {}
+            MExp::Apply(_, _) => {}
+            MExp::MSeal(_, _) => {}
+        }
+    }
 }
 
 /// An expression with at most one thing to do (the manual, section 11.7).
@@ -98,7 +140,6 @@ pub enum Full {
 
 /// An expression that may stand as an argument.
 #[cycle(expressions)]
-#[derive(Drop)]
 pub enum Atom {
     /// `5`, `(-5)`, `'c'`, `"s"`.
     Const(OcLit),
@@ -114,4 +155,19 @@ pub enum Atom {
     Tuple(Boxed<Atom>, List<Atom>),
     /// `[]`, `[a; b]`.
     Items(List<Atom>),
+}
+
+impl Drop for Atom {
+    #[cycle(expressions)]
+    fn drop(self) {
+        match self {
+            Atom::Const(_) => {}
+            Atom::Val(_) => {}
+            Atom::Con(_) => {}
+            Atom::Unit => {}
+            Atom::Paren(_) => {}
+            Atom::Tuple(_, _) => {}
+            Atom::Items(_) => {}
+        }
+    }
 }

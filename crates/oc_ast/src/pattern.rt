@@ -3,7 +3,6 @@ use tl_text::{Boxed, List, Name, Path};
 
 /// A pattern (the manual, section 11.6).
 #[cycle(patterns)]
-#[derive(Drop)]
 pub enum Pat {
     /// `x`, a pattern that needs no parentheses.
     PAt(APat),
@@ -15,9 +14,20 @@ pub enum Pat {
     PAs(Boxed<APat>, Name),
 }
 
+impl Drop for Pat {
+    #[cycle(patterns)]
+    fn drop(self) {
+        match self {
+            Pat::PAt(_) => {}
+            Pat::PBuild(_, _) => {}
+            Pat::PCons(_, _) => {}
+            Pat::PAs(_, _) => {}
+        }
+    }
+}
+
 /// A pattern that may stand as an argument.
 #[cycle(patterns)]
-#[derive(Drop)]
 pub enum APat {
     /// `_`.
     Any,
@@ -37,4 +47,21 @@ pub enum APat {
     PNil,
     /// `{contents = x}`, a reference of which the pattern takes the content.
     PCell(Boxed<Pat>),
+}
+
+impl Drop for APat {
+    #[cycle(patterns)]
+    fn drop(self) {
+        match self {
+            APat::Any => {}
+            APat::PVar(_) => {}
+            APat::PConst(_) => {}
+            APat::PCon(_) => {}
+            APat::PUnit => {}
+            APat::PParen(_) => {}
+            APat::PTuple(_, _) => {}
+            APat::PNil => {}
+            APat::PCell(_) => {}
+        }
+    }
 }

@@ -3,15 +3,22 @@ use tl_text::{Boxed, List, Name};
 
 /// A signature (the manual, section 11.10).
 #[cycle(signatures)]
-#[derive(Drop)]
 pub enum MSig {
     /// `sig .. end`.
     Sig(List<SItem>),
 }
 
+impl Drop for MSig {
+    #[cycle(signatures)]
+    fn drop(self) {
+        match self {
+            MSig::Sig(_) => {}
+        }
+    }
+}
+
 /// An item of a signature.
 #[cycle(signatures)]
-#[derive(Drop)]
 pub enum SItem {
     /// `val x : t`.
     SVal(Name, OTy),
@@ -23,4 +30,17 @@ pub enum SItem {
     SExn(Name, Option<ATy>),
     /// `module M : sig .. end`.
     SModule(Name, Boxed<MSig>),
+}
+
+impl Drop for SItem {
+    #[cycle(signatures)]
+    fn drop(self) {
+        match self {
+            SItem::SVal(_, _) => {}
+            SItem::STypes(_) => {}
+            SItem::SAbs(_, _) => {}
+            SItem::SExn(_, _) => {}
+            SItem::SModule(_, _) => {}
+        }
+    }
 }

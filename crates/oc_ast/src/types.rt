@@ -2,7 +2,6 @@ use tl_text::{Boxed, List, Name, Path};
 
 /// A type (the manual, section 11.4).
 #[cycle(types)]
-#[derive(Drop)]
 pub enum OTy {
     /// `int`, a type that needs no parentheses.
     TAt(ATy),
@@ -12,9 +11,19 @@ pub enum OTy {
     TTuple(Boxed<ATy>, List<ATy>),
 }
 
+impl Drop for OTy {
+    #[cycle(types)]
+    fn drop(self) {
+        match self {
+            OTy::TAt(_) => {}
+            OTy::TArrow(_, _) => {}
+            OTy::TTuple(_, _) => {}
+        }
+    }
+}
+
 /// A type that may stand as an argument.
 #[cycle(types)]
-#[derive(Drop)]
 pub enum ATy {
     /// `'a`. The name has the quote.
     TVar(Name),
@@ -25,13 +34,32 @@ pub enum ATy {
     TParen(Boxed<OTy>),
 }
 
+impl Drop for ATy {
+    #[cycle(types)]
+    fn drop(self) {
+        match self {
+            ATy::TVar(_) => {}
+            ATy::TCon(_, _) => {}
+            ATy::TParen(_) => {}
+        }
+    }
+}
+
 /// The definition of one type (the manual, section 11.8.1). The first field is the type variables,
 /// with their quotes; one stands bare, several stand in parentheses with commas.
-#[derive(Drop)]
 pub enum TDef {
     /// `'a t = 'a list`.
     Alias(List<Name>, Name, OTy),
     /// `'a t = A | B of 'a`, and with a manifest `'a t = 'a M.t = A | B of 'a`. The row has one
     /// constructor at least.
     Variant(List<Name>, Name, Option<OTy>, List<(Name, Option<ATy>)>),
+}
+
+impl Drop for TDef {
+    fn drop(self) {
+        match self {
+            TDef::Alias(_, _, _) => {}
+            TDef::Variant(_, _, _, _) => {}
+        }
+    }
 }

@@ -6,7 +6,6 @@ use tl_text::{Boxed, List, Lit, Place};
 
 /// An atomic pattern without derived forms.
 #[cycle(bare_pat)]
-#[derive(Drop)]
 pub enum BareAtPat {
     /// `_`
     Any(Place),
@@ -22,9 +21,22 @@ pub enum BareAtPat {
     PParen(Place, Boxed<BarePat>),
 }
 
+impl Drop for BareAtPat {
+    #[cycle(bare_pat_drop)]
+    fn drop(self) {
+        match self {
+            BareAtPat::Any(_) => {}
+            BareAtPat::PLit(_, _) => {}
+            BareAtPat::PId(_, _, _) => {}
+            BareAtPat::PFields(_, _) => {}
+            BareAtPat::PRow(_, _) => {}
+            BareAtPat::PParen(_, _) => {}
+        }
+    }
+}
+
 /// A field of a record pattern without derived forms.
 #[cycle(bare_pat)]
-#[derive(Drop)]
 pub enum BarePField {
     /// `...`
     Rest(Place),
@@ -32,9 +44,18 @@ pub enum BarePField {
     Named(Place, Label, BarePat),
 }
 
+impl Drop for BarePField {
+    #[cycle(bare_pat_drop)]
+    fn drop(self) {
+        match self {
+            BarePField::Rest(_) => {}
+            BarePField::Named(_, _, _) => {}
+        }
+    }
+}
+
 /// A pattern without derived forms.
 #[cycle(bare_pat)]
-#[derive(Drop)]
 pub enum BarePat {
     /// An atomic pattern.
     PAtom(Place, BareAtPat),
@@ -46,4 +67,17 @@ pub enum BarePat {
     PTyped(Place, Boxed<BarePat>, BareTy),
     /// `x : t as p`, `op x : t as p`
     Layer(Place, bool, Ident, Option<BareTy>, Boxed<BarePat>),
+}
+
+impl Drop for BarePat {
+    #[cycle(bare_pat_drop)]
+    fn drop(self) {
+        match self {
+            BarePat::PAtom(_, _) => {}
+            BarePat::PCon(_, _, _, _) => {}
+            BarePat::PInfix(_, _, _, _) => {}
+            BarePat::PTyped(_, _, _) => {}
+            BarePat::Layer(_, _, _, _, _) => {}
+        }
+    }
 }

@@ -7,7 +7,6 @@ use tl_text::{Boxed, List, Place};
 
 /// A signature expression without derived forms.
 #[cycle(bare_sig)]
-#[derive(Drop)]
 pub enum BareSigExp {
     /// `sig .. end`
     Specs(Place, List<BareSpec>),
@@ -17,9 +16,19 @@ pub enum BareSigExp {
     Real(Place, Place, Boxed<BareSigExp>, Tyvars, LongIdent, BareTy),
 }
 
+impl Drop for BareSigExp {
+    #[cycle(bare_sig_drop)]
+    fn drop(self) {
+        match self {
+            BareSigExp::Specs(_, _) => {}
+            BareSigExp::SigAt(_, _) => {}
+            BareSigExp::Real(_, _, _, _, _, _) => {}
+        }
+    }
+}
+
 /// A specification without derived forms; `ShareStr` stays, since what it stands for depends on the signature round it.
 #[cycle(bare_sig)]
-#[derive(Drop)]
 pub enum BareSpec {
     /// `val x : t and y : u`
     ValSpec(Place, List<(Ident, BareTy)>),
@@ -43,11 +52,37 @@ pub enum BareSpec {
     ShareStr(Place, LongIdent, List<LongIdent>),
 }
 
+impl Drop for BareSpec {
+    #[cycle(bare_sig_drop)]
+    fn drop(self) {
+        match self {
+            BareSpec::ValSpec(_, _) => {}
+            BareSpec::TySpec(_, _) => {}
+            BareSpec::EqSpec(_, _) => {}
+            BareSpec::DataSpec(_, _) => {}
+            BareSpec::CopySpec(_, _, _) => {}
+            BareSpec::ExnSpec(_, _) => {}
+            BareSpec::StrSpec(_, _) => {}
+            BareSpec::Incl(_, _) => {}
+            BareSpec::ShareTy(_, _, _) => {}
+            BareSpec::ShareStr(_, _, _) => {}
+        }
+    }
+}
+
 /// An ascription without derived forms.
-#[derive(Drop)]
 pub enum BareAscribe {
     /// `: G`
     Clear(Place, BareSigExp),
     /// `:> G`
     Opaque(Place, BareSigExp),
+}
+
+impl Drop for BareAscribe {
+    fn drop(self) {
+        match self {
+            BareAscribe::Clear(_, _) => {}
+            BareAscribe::Opaque(_, _) => {}
+        }
+    }
 }

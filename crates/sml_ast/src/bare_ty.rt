@@ -5,7 +5,6 @@ use tl_text::{Boxed, List, Place};
 
 /// A type without derived forms.
 #[cycle(bare_ty)]
-#[derive(Drop)]
 pub enum BareTy {
     /// `'a`
     Tyvar(Place, Ident),
@@ -17,4 +16,17 @@ pub enum BareTy {
     Arrow(Place, Boxed<BareTy>, Boxed<BareTy>),
     /// `(t)`
     TParen(Place, Boxed<BareTy>),
+}
+
+impl Drop for BareTy {
+    #[cycle(bare_ty_drop)]
+    fn drop(self) {
+        match self {
+            BareTy::Tyvar(_, _) => {}
+            BareTy::TFields(_, _) => {}
+            BareTy::TCon(_, _, _) => {}
+            BareTy::Arrow(_, _, _) => {}
+            BareTy::TParen(_, _) => {}
+        }
+    }
 }

@@ -8,7 +8,6 @@ use tl_text::{Boxed, List, Lit, Place};
 
 /// AtExp, an atomic expression (the Definition, figure 4).
 #[cycle(exp)]
-#[derive(Drop)]
 pub enum AtExp {
     /// `1`
     Lit(Place, Lit),
@@ -32,9 +31,26 @@ pub enum AtExp {
     Paren(Place, Boxed<Exp>),
 }
 
+impl Drop for AtExp {
+    #[cycle(exp_drop)]
+    fn drop(self) {
+        match self {
+            AtExp::Lit(_, _) => {}
+            AtExp::Id(_, _, _) => {}
+            AtExp::Fields(_, _) => {}
+            AtExp::Pick(_, _) => {}
+            AtExp::Unit(_) => {}
+            AtExp::Tuple(_, _, _) => {}
+            AtExp::Items(_, _) => {}
+            AtExp::Seq(_, _, _) => {}
+            AtExp::Let(_, _, _) => {}
+            AtExp::Paren(_, _) => {}
+        }
+    }
+}
+
 /// Exp, an expression.
 #[cycle(exp)]
-#[derive(Drop)]
 pub enum Exp {
     /// `e f g`, one or more.
     Apply(Place, List<AtExp>),
@@ -60,17 +76,43 @@ pub enum Exp {
     Fn(Place, List<Rule>),
 }
 
+impl Drop for Exp {
+    #[cycle(exp_drop)]
+    fn drop(self) {
+        match self {
+            Exp::Apply(_, _) => {}
+            Exp::Infix(_, _, _, _) => {}
+            Exp::Typed(_, _, _) => {}
+            Exp::AndAlso(_, _, _) => {}
+            Exp::OrElse(_, _, _) => {}
+            Exp::Handle(_, _, _) => {}
+            Exp::Raise(_, _) => {}
+            Exp::If(_, _, _, _) => {}
+            Exp::While(_, _, _) => {}
+            Exp::Case(_, _, _) => {}
+            Exp::Fn(_, _) => {}
+        }
+    }
+}
+
 /// Rule, a rule of a match.
 #[cycle(exp)]
-#[derive(Drop)]
 pub enum Rule {
     /// `p => e`
     Arm(Place, Pat, Exp),
 }
 
+impl Drop for Rule {
+    #[cycle(exp_drop)]
+    fn drop(self) {
+        match self {
+            Rule::Arm(_, _, _) => {}
+        }
+    }
+}
+
 /// Dec, a declaration (the Definition, figure 4).
 #[cycle(exp)]
-#[derive(Drop)]
 pub enum Dec {
     /// `val 'a rec p = e and q = f`: the type variables, whether `rec` is there, and the bindings.
     Vals(Place, Tyvars, bool, List<(Pat, Exp)>),
@@ -96,9 +138,27 @@ pub enum Dec {
     Abs(Place, List<DatBind>, List<TyBind>, List<Dec>),
 }
 
+impl Drop for Dec {
+    #[cycle(exp_drop)]
+    fn drop(self) {
+        match self {
+            Dec::Vals(_, _, _, _) => {}
+            Dec::Funs(_, _, _) => {}
+            Dec::Types(_, _) => {}
+            Dec::Datas(_, _, _) => {}
+            Dec::Copy(_, _, _) => {}
+            Dec::Exns(_, _) => {}
+            Dec::Local(_, _, _) => {}
+            Dec::Opens(_, _) => {}
+            Dec::Fix(_, _, _, _) => {}
+            Dec::Nonfix(_, _) => {}
+            Dec::Abs(_, _, _, _) => {}
+        }
+    }
+}
+
 /// Clause, a clause of a function (the Definition, figure 17).
 #[cycle(exp)]
-#[derive(Drop)]
 pub enum Clause {
     /// `f p q : t = e`, `op f p q : t = e`
     Prefix(Place, bool, Ident, List<AtPat>, Option<Ty>, Exp),
@@ -106,4 +166,15 @@ pub enum Clause {
     Mid(Place, AtPat, Ident, AtPat, Option<Ty>, Exp),
     /// `(p ++ q) r s : t = e`
     MidMore(Place, AtPat, Ident, AtPat, List<AtPat>, Option<Ty>, Exp),
+}
+
+impl Drop for Clause {
+    #[cycle(exp_drop)]
+    fn drop(self) {
+        match self {
+            Clause::Prefix(_, _, _, _, _, _) => {}
+            Clause::Mid(_, _, _, _, _, _) => {}
+            Clause::MidMore(_, _, _, _, _, _, _) => {}
+        }
+    }
 }

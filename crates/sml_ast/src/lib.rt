@@ -4,7 +4,8 @@
 //! for each alternative; the place of its first token is each node's first field.
 //! Rule: a row is a `List`, empty where an optional one is not there; an optional part is an `Option`, an optional word a
 //! `bool`. Under `Bare` stand the trees without derived forms.
-//! Main contract: `height` is the number of nodes on the longest way down.
+//! Main contract: `height` is the number of nodes on the longest way down. Each type has a `drop` of its own, so that a
+//! function of a layer above that drops a tree calls it; `release` lets go of a whole program in a loop.
 //! Knows nothing of: tokens, fixities, scopes, types.
 #![tactic(auto)]
 
@@ -25,6 +26,7 @@ mod height_ty;
 mod name;
 mod pat;
 mod program;
+mod release;
 mod sig;
 mod ty;
 

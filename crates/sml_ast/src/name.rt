@@ -3,10 +3,19 @@
 use tl_text::{List, Name, Path, Place};
 
 /// A label of a record: a number from 1 on, or a word (the Definition, section 2.4).
-#[derive(Debug, Drop)]
+#[derive(Debug)]
 pub enum Lab {
     Num(u32),
     Word(Name),
+}
+
+impl Drop for Lab {
+    fn drop(self) {
+        match self {
+            Lab::Num(_) => {}
+            Lab::Word(_) => {}
+        }
+    }
 }
 
 /// An identifier or a type variable, with the place of its first byte.

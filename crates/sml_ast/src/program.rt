@@ -1,5 +1,7 @@
 //! Structures, functors and programs.
 
+ghost use Rattle.std.specs.Prelude.{◌≡◌};
+
 use crate::exp::{Dec, Exp};
 use crate::name::{Ident, LongIdent};
 use crate::sig::{Ascribe, SigExp, Spec};
@@ -7,7 +9,6 @@ use tl_text::{Boxed, List, Place};
 
 /// StrExp, a structure expression (the Definition, figure 6).
 #[cycle(structure)]
-#[derive(Drop)]
 pub enum StrExp {
     /// `struct .. end`
     Body(Place, List<StrDec>),
@@ -23,9 +24,22 @@ pub enum StrExp {
     LetStr(Place, List<StrDec>, Boxed<StrExp>),
 }
 
+impl Drop for StrExp {
+    #[cycle(structure_drop)]
+    fn drop(self) {
+        match self {
+            StrExp::Body(_, _) => {}
+            StrExp::At(_, _) => {}
+            StrExp::Seal(_, _, _) => {}
+            StrExp::Call(_, _, _) => {}
+            StrExp::CallBody(_, _, _) => {}
+            StrExp::LetStr(_, _, _) => {}
+        }
+    }
+}
+
 /// StrDec, a declaration at structure level.
 #[cycle(structure)]
-#[derive(Drop)]
 pub enum StrDec {
     /// A declaration of the core.
     Core(Place, Dec),
@@ -35,23 +49,63 @@ pub enum StrDec {
     LocalStr(Place, List<StrDec>, List<StrDec>),
 }
 
+impl Drop for StrDec {
+    #[cycle(structure_drop)]
+    fn drop(self) {
+        match self {
+            StrDec::Core(_, _) => {}
+            StrDec::Structs(_, _) => {}
+            StrDec::LocalStr(_, _, _) => {}
+        }
+    }
+}
+
+impl StrDec {
+    ghost use Rattle.sml_ast.specs.Parts as parts;
+
+    /// The declaration of the core that it is, without a copy; None of another declaration.
+    pub fn into_core(self) -> Option<Dec>
+        ensures { result ≡ parts.core self }
+    {
+        match self {
+            StrDec::Core(_, dec) => Some(dec),
+            StrDec::Structs(_, _) => None,
+            StrDec::LocalStr(_, _, _) => None,
+        }
+    }
+}
+
 /// StrBind, a binding of a structure.
 #[cycle(structure)]
-#[derive(Drop)]
 pub enum StrBind {
     /// `S : G = e`
     Bind(Place, Ident, Option<Ascribe>, StrExp),
 }
 
+impl Drop for StrBind {
+    #[cycle(structure_drop)]
+    fn drop(self) {
+        match self {
+            StrBind::Bind(_, _, _, _) => {}
+        }
+    }
+}
+
 /// SigBind, a binding of a signature.
-#[derive(Drop)]
 pub enum SigBind {
     /// `G = H`
     SigAs(Place, Ident, SigExp),
 }
 
+impl Drop for SigBind {
+    fn drop(self) {
+        match self {
+            SigBind::SigAs(_, _, _) => {}
+        }
+    }
+}
+
 /// FunBind, a binding of a functor (the Definition, figure 8).
-#[derive(Drop)]
 pub enum FunBind {
     /// `F (X : G) : H = e`
     FunOf(Place, Ident, Ident, SigExp, Option<Ascribe>, StrExp),
@@ -59,8 +113,16 @@ pub enum FunBind {
     FunSpecs(Place, Ident, List<Spec>, Option<Ascribe>, StrExp),
 }
 
+impl Drop for FunBind {
+    fn drop(self) {
+        match self {
+            FunBind::FunOf(_, _, _, _, _, _) => {}
+            FunBind::FunSpecs(_, _, _, _, _) => {}
+        }
+    }
+}
+
 /// Top, a top-level declaration (the Definition, figure 8).
-#[derive(Drop)]
 pub enum Top {
     /// A declaration at structure level.
     Strs(Place, StrDec),
@@ -72,9 +134,27 @@ pub enum Top {
     Run(Place, Exp),
 }
 
+impl Drop for Top {
+    fn drop(self) {
+        match self {
+            Top::Strs(_, _) => {}
+            Top::Sigs(_, _) => {}
+            Top::Funs(_, _) => {}
+            Top::Run(_, _) => {}
+        }
+    }
+}
+
 /// Program, a whole source.
-#[derive(Drop)]
 pub enum Program {
     /// Its top-level declarations.
     Tops(Place, List<Top>),
+}
+
+impl Drop for Program {
+    fn drop(self) {
+        match self {
+            Program::Tops(_, _) => {}
+        }
+    }
 }

@@ -1,5 +1,7 @@
 //! Signatures and specifications.
 
+ghost use Rattle.std.specs.Prelude.{◌≡◌};
+
 use crate::data::{DatDesc, TyBind};
 use crate::name::{Ident, LongIdent, Tyvars};
 use crate::ty::Ty;
@@ -7,7 +9,6 @@ use tl_text::{Boxed, List, Place};
 
 /// SigExp, a signature expression (the Definition, figure 6).
 #[cycle(sig)]
-#[derive(Drop)]
 pub enum SigExp {
     /// `sig .. end`
     Specs(Place, List<Spec>),
@@ -17,9 +18,34 @@ pub enum SigExp {
     Real(Place, Place, Boxed<SigExp>, Tyvars, LongIdent, Ty),
 }
 
+impl Drop for SigExp {
+    #[cycle(sig_drop)]
+    fn drop(self) {
+        match self {
+            SigExp::Specs(_, _) => {}
+            SigExp::SigAt(_, _) => {}
+            SigExp::Real(_, _, _, _, _, _) => {}
+        }
+    }
+}
+
+impl SigExp {
+    ghost use Rattle.sml_ast.specs.Parts as parts;
+
+    /// The identifier that it is, without a copy; None of another signature.
+    pub fn into_identifier(self) -> Option<Ident>
+        ensures { result ≡ parts.identifier self }
+    {
+        match self {
+            SigExp::SigAt(_, name) => Some(name),
+            SigExp::Specs(_, _) => None,
+            SigExp::Real(_, _, _, _, _, _) => None,
+        }
+    }
+}
+
 /// Spec, a specification (the Definition, figure 7).
 #[cycle(sig)]
-#[derive(Drop)]
 pub enum Spec {
     /// `val x : t and y : u`
     ValSpec(Place, List<(Ident, Ty)>),
@@ -47,11 +73,39 @@ pub enum Spec {
     ShareStr(Place, LongIdent, List<LongIdent>),
 }
 
+impl Drop for Spec {
+    #[cycle(sig_drop)]
+    fn drop(self) {
+        match self {
+            Spec::ValSpec(_, _) => {}
+            Spec::TySpec(_, _) => {}
+            Spec::EqSpec(_, _) => {}
+            Spec::SynSpec(_, _) => {}
+            Spec::DataSpec(_, _) => {}
+            Spec::CopySpec(_, _, _) => {}
+            Spec::ExnSpec(_, _) => {}
+            Spec::StrSpec(_, _) => {}
+            Spec::Incl(_, _) => {}
+            Spec::Incls(_, _) => {}
+            Spec::ShareTy(_, _, _) => {}
+            Spec::ShareStr(_, _, _) => {}
+        }
+    }
+}
+
 /// Ascribe, an ascription.
-#[derive(Drop)]
 pub enum Ascribe {
     /// `: G`
     Clear(Place, SigExp),
     /// `:> G`
     Opaque(Place, SigExp),
+}
+
+impl Drop for Ascribe {
+    fn drop(self) {
+        match self {
+            Ascribe::Clear(_, _) => {}
+            Ascribe::Opaque(_, _) => {}
+        }
+    }
 }

@@ -5,7 +5,6 @@ use tl_text::{Boxed, List, Place};
 
 /// Ty (the Definition, figure 3).
 #[cycle(ty)]
-#[derive(Drop)]
 pub enum Ty {
     /// `'a`
     Tyvar(Place, Ident),
@@ -19,4 +18,18 @@ pub enum Ty {
     Arrow(Place, Boxed<Ty>, Boxed<Ty>),
     /// `(t)`
     TParen(Place, Boxed<Ty>),
+}
+
+impl Drop for Ty {
+    #[cycle(ty_drop)]
+    fn drop(self) {
+        match self {
+            Ty::Tyvar(_, _) => {}
+            Ty::TFields(_, _) => {}
+            Ty::TCon(_, _, _) => {}
+            Ty::TTuple(_, _, _) => {}
+            Ty::Arrow(_, _, _) => {}
+            Ty::TParen(_, _) => {}
+        }
+    }
 }

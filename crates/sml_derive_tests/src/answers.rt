@@ -257,8 +257,10 @@ fn add_modules(alloc: Global, done: &mut List<Top>) -> Result<(), NoMemory> {
 /// How many top-level declarations a source has without derived forms.
 fn derived_tops(alloc: Global, tops: List<Top>) -> Result<usize, NoMemory> {
     let source = Program::Tops(PLACE, tops);
-    let BareProgram::Tops(_, tops) = derive(alloc, &source)?;
-    Ok(tops.items().len())
+    let program = derive(alloc, &source)?;
+    match &program {
+        BareProgram::Tops(_, tops) => Ok(tops.items().len()),
+    }
 }
 
 /// The same of one expression.

@@ -13,10 +13,15 @@ pub enum Side {
 }
 
 /// Which identifiers are operators, with precedence and side. Contracts see the function `settings` from identifiers.
-#[derive(Drop)]
 pub struct Fixities {
     alloc: Global,
     table: IndexMap<Name, Option<(u8, Side)>>,
+}
+
+impl Drop for Fixities {
+    fn drop(self) {
+        let Fixities { alloc: _, table: _ } = self;
+    }
 }
 
 impl Fixities {

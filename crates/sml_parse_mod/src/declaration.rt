@@ -49,7 +49,7 @@ fn cores(alloc: Global, decs: List<StrDec>) -> Result<List<Dec>, NoMemory>
 {
     let mut found = List::new(alloc);
     for dec in decs.into_vec() {
-        if let StrDec::Core(_, dec) = dec {
+        if let Some(dec) = dec.into_core() {
             found.push(dec)?;
         }
     }

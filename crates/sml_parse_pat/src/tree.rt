@@ -252,15 +252,15 @@ pub fn is_bare(pat: &(Pat, u32)) -> bool
 fn bare_atom(
     alloc: Global,
     ty: Option<Ty>,
-    atom: AtPat,
+    atom: &AtPat,
 ) -> Result<Option<(bool, Ident, Option<Ty>)>, NoMemory>
-    ensures { IfOk result (λ x. x ≡ rows.bare_of_atom ty atom) }
+    ensures { IfOk result (λ x. x ≡ rows.bare_of_atom ty atom.now) }
 {
     match atom {
         AtPat::PId(_, op, name) => match name.1.parts() {
             [only] => {
                 let vid = (name.0, Name::new(alloc, only.bytes())?);
-                Ok(Some((op, vid, ty)))
+                Ok(Some((*op, vid, ty)))
             }
             _ => Ok(None),
         },
@@ -271,13 +271,15 @@ fn bare_atom(
 fn bare(alloc: Global, pat: Pat) -> Result<Option<(bool, Ident, Option<Ty>)>, NoMemory>
     ensures { IfOk result (λ x. x ≡ rows.bare_of pat) }
 {
-    match pat {
-        Pat::PAtom(_, atom) => bare_atom(alloc, None, atom),
-        Pat::PTyped(_, inner, ty) => match inner.into_inner() {
+    if let Pat::PAtom(_, atom) = &pat {
+        return bare_atom(alloc, None, atom);
+    }
+    match pat.into_typed() {
+        Some((inner, ty)) => match inner.get() {
             Pat::PAtom(_, atom) => bare_atom(alloc, Some(ty), atom),
             _ => Ok(None),
         },
-        _ => Ok(None),
+        None => Ok(None),
     }
 }
 

@@ -119,9 +119,12 @@ pub fn included(
             let height = above(sig.1, 0)?;
             Ok((Spec::Incl(place, Boxed::new(alloc, sig.0)?), height))
         }
-        Some(others) => match sig.0 {
-            SigExp::SigAt(_, name) => Ok((identifiers(place, name, others)?, 1)),
-            _ => Ok((Spec::Incls(place, others), above(sig.1, 0)?)),
-        },
+        Some(others) => {
+            let (sig, height) = sig;
+            match sig.into_identifier() {
+                Some(name) => Ok((identifiers(place, name, others)?, 1)),
+                None => Ok((Spec::Incls(place, others), above(height, 0)?)),
+            }
+        }
     }
 }

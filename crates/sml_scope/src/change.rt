@@ -8,11 +8,20 @@ use std::alloc::Global;
 use tl_text::{Name, NoMemory};
 
 /// What a directive makes of one identifier, and what it was before.
-#[derive(Drop)]
 pub(crate) struct Change {
     pub(crate) name: Name,
     pub(crate) before: Option<(u8, Side)>,
     pub(crate) after: Option<(u8, Side)>,
+}
+
+impl Drop for Change {
+    fn drop(self) {
+        let Change {
+            name: _,
+            before: _,
+            after: _,
+        } = self;
+    }
 }
 
 /// The directives of the start (the Definition, appendix C).

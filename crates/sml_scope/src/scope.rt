@@ -13,11 +13,20 @@ use tl_text::{Name, NoMemory};
 /// The fixity directives in force. Contracts see the row of them: of each an identifier, and what it is from there on.
 ///
 /// Each change has a log entry with what was before it, so a scope is left without a copy of the fixities.
-#[derive(Drop)]
 pub struct Scope {
     alloc: Global,
     fix: Fixities,
     log: Vec<Change>,
+}
+
+impl Drop for Scope {
+    fn drop(self) {
+        let Scope {
+            alloc: _,
+            fix: _,
+            log: _,
+        } = self;
+    }
 }
 
 impl Model for Scope {

@@ -3,7 +3,6 @@ use tl_text::{Boxed, List, Lit, Name, Path};
 
 /// A pattern of the typed language, with the types that it needs (the Definition, section 2.8).
 #[cycle(mid_pat)]
-#[derive(Drop)]
 pub enum MidPat {
     /// `_`
     Any(Ty),
@@ -24,11 +23,36 @@ pub enum MidPat {
     Flex(List<(Label, MidPat)>, Ty),
 }
 
+impl Drop for MidPat {
+    #[cycle(mid_pat_drop)]
+    fn drop(self) {
+        match self {
+            MidPat::Any(_) => {}
+            MidPat::Lit(_) => {}
+            MidPat::Var(_, _, _) => {}
+            MidPat::Con(_, _, _, _) => {}
+            MidPat::Tuple(_) => {}
+            MidPat::Layer(_, _, _) => {}
+            MidPat::Cell(_) => {}
+            MidPat::Flex(_, _) => {}
+        }
+    }
+}
+
 /// A datatype: where it stands, its type name, and its constructors with the types of their arguments,
 /// where `Bound(i)` is the datatype's parameter at place i.
-#[derive(Drop)]
 pub struct MidData {
     pub path: Path,
     pub name: TyName,
     pub cons: List<(Name, Option<Ty>)>,
+}
+
+impl Drop for MidData {
+    fn drop(self) {
+        let MidData {
+            path: _,
+            name: _,
+            cons: _,
+        } = self;
+    }
 }

@@ -11,15 +11,24 @@ pub struct TyName {
 
 /// A label of a record: a number from 1, or an identifier (the Definition, section 2.4). In a type the
 /// numbers come first, in their order, and then the words by their bytes.
-#[derive(Debug, Drop)]
+#[derive(Debug)]
 pub enum Label {
     Num(u32),
     Word(Name),
 }
 
+impl Drop for Label {
+    fn drop(self) {
+        match self {
+            Label::Num(_) => {}
+            Label::Word(_) => {}
+        }
+    }
+}
+
 /// A type (the Definition, section 4.2).
 #[cycle(ty)]
-#[derive(Debug, Drop)]
+#[derive(Debug)]
 pub enum Ty {
     /// A type that is not yet known: the number of a node of a store of types.
     Free(u32),
@@ -33,6 +42,19 @@ pub enum Ty {
     Con(TyName, List<Ty>),
 }
 
+impl Drop for Ty {
+    #[cycle(ty_drop)]
+    fn drop(self) {
+        match self {
+            Ty::Free(_) => {}
+            Ty::Bound(_) => {}
+            Ty::Fields(_) => {}
+            Ty::Arrow(_, _) => {}
+            Ty::Con(_, _) => {}
+        }
+    }
+}
+
 /// What a type variable stands for: any type, or one that admits equality, as `''a` does.
 #[derive(Clone, Copy, Debug, PartialEq, Eq)]
 pub enum VarKind {
@@ -42,15 +64,27 @@ pub enum VarKind {
 
 /// A type for all types of its variables, where `Bound(i)` is the variable at place i (the Definition,
 /// section 4.2, type schemes).
-#[derive(Debug, Drop)]
+#[derive(Debug)]
 pub struct Scheme {
     pub vars: List<VarKind>,
     pub body: Ty,
 }
 
+impl Drop for Scheme {
+    fn drop(self) {
+        let Scheme { vars: _, body: _ } = self;
+    }
+}
+
 /// A type function, where `Bound(i)` is its parameter at place i (the Definition, section 4.4).
-#[derive(Debug, Drop)]
+#[derive(Debug)]
 pub struct TyFun {
     pub arity: u32,
     pub body: Ty,
+}
+
+impl Drop for TyFun {
+    fn drop(self) {
+        let TyFun { arity: _, body: _ } = self;
+    }
 }

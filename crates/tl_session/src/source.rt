@@ -10,7 +10,6 @@ ghost use Rattle.tl_session.specs.Refused.{FailsUnder, LeavesOnly};
 use built_items::{SourceItem, built_items};
 use sml_fix::Fixities;
 use sml_front::read_source;
-use sml_release::release;
 use std::alloc::Global;
 use tl_text::{Fault, List};
 
@@ -33,7 +32,7 @@ pub fn source_items(
 {
     let (program, left) = read_source(alloc, number, bytes, fix)?;
     let read = built_items(alloc, &program);
-    release(alloc, program);
+    program.release(alloc);
     let items = read?;
     Ok((items, left))
 }

@@ -5,9 +5,15 @@ use std::alloc::Global;
 use std::marker::Model;
 
 /// One value on the heap, by which a tree leads to a part of its own type. Contracts see the value.
-#[derive(Debug, Drop)]
+#[derive(Debug)]
 pub struct Boxed<T> {
     inner: Box<T>,
+}
+
+impl<T: Drop> Drop for Boxed<T> {
+    fn drop(self) {
+        let Boxed { inner: _ } = self;
+    }
 }
 
 impl<T> Model for Boxed<T> {

@@ -5,9 +5,15 @@ use std::alloc::Global;
 use std::marker::Model;
 
 /// A row, the one list type of the trees. Contracts see the list of its items.
-#[derive(Debug, Drop)]
+#[derive(Debug)]
 pub struct List<T> {
     items: Vec<T>,
+}
+
+impl<T: Drop> Drop for List<T> {
+    fn drop(self) {
+        let List { items: _ } = self;
+    }
 }
 
 impl<T> Model for List<T> {

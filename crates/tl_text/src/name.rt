@@ -14,9 +14,15 @@ use std::hash::{Hash, Hasher};
 use std::marker::Model;
 
 /// An identifier, or one part of a long one. Contracts see its bytes, by which names compare.
-#[derive(Debug, Drop)]
+#[derive(Debug)]
 pub struct Name {
     bytes: Vec<u8>,
+}
+
+impl Drop for Name {
+    fn drop(self) {
+        let Name { bytes: _ } = self;
+    }
 }
 
 impl Model for Name {

@@ -7,9 +7,15 @@ use std::marker::Model;
 
 /// A long identifier. Contracts see the list of its parts, the outermost structure first.
 /// Up to four parts lie in the value itself.
-#[derive(Debug, Drop)]
+#[derive(Debug)]
 pub struct Path {
     parts: SmallVec<Name, 4>,
+}
+
+impl Drop for Path {
+    fn drop(self) {
+        let Path { parts: _ } = self;
+    }
 }
 
 impl Model for Path {

@@ -88,8 +88,10 @@ fn put(alloc: Global, store: &mut Store, a: Node, b: Node, text: &[u8]) -> Resul
 fn row_sign(fields: &[(Label, Ty)]) -> u8 {
     match fields {
         [] => b'u',
-        [.., (Label::Word(_), _)] => b'q',
-        _ => b'*',
+        [.., last] => match &last.0 {
+            Label::Word(_) => b'q',
+            Label::Num(_) => b'*',
+        },
     }
 }
 

@@ -44,7 +44,7 @@ loop-tokens-preserved-in-Skip c =
       byte = omega (arith, c.behind-place.ensures.byte, c.loop-tokens.invariant.byte, size, rest);
     }
 
-refused : (c : goal.After-drop-tokens-inside-in-Fail) → Refuses c.args.source c.args.bytes.now (record { place = c.behind-place-in-Fail.result; code = c.in-Fail.code })
+refused : (c : goal.After-drop-tokens-in-Fail) → Refuses c.args.source c.args.bytes.now (record { place = c.behind-place-in-Fail.result; code = c.in-Fail.code })
 refused c =
     let step = subst (Steps c.loop-tokens.rest.now) c.in-Fail.is c.in_ok-step.ensures.value in
     let fails = lexed_fail c.args.source c.args.bytes.now c.loop-tokens.tokens c.loop-tokens.rest.now c.loop-tokens.place c.loop-tokens.long c.in-Fail.n c.in-Fail.code c.loop-tokens.invariant.lexed step in

@@ -38,7 +38,7 @@ returns-in_err-items-clause-fails c = λ refusal.
 
 pub unit_text-requires : goal.unit_text-requires
 unit_text-requires c =
-    items_lawful-same _ c.in_ok-items.items c.items-3.ensures
+    items_lawful-same _ c.in_ok-items.items c.items-2.ensures
     (is_lawful (length c.items.result.now + 1) (settings c.self.inside.fix) (settings c.in_ok-items.left) c.args.bytes.now c.in_ok-items.items c.in_ok-items.ensures.found)
 
 pub invariant_of-self-2 : goal.invariant_of-self-2
@@ -62,7 +62,7 @@ returns-clause-taken c =
     let tree : List SourceItem → List ℕ = λ items. Layout (unit_tree (length c.items.result.now + 1) (base_of c.args.name.now) items) in
     taken_after c.self.inside.accepted c.items.result.now c.push.new.self c.args.self.now (settings c.self.inside.fix) (settings c.in_ok-items.left) s
     c.in_ok-source.source c.in_ok-items.items n c.in_ok-items.ensures.found (ap source_of c.in_ok-source.ensures) (ap (λ (a : Accepted). a.program) c.in_ok-source.ensures) c.in_ok-push.ensures.ok
-    c.from_vec.result c.new.result (c.from_vec.ensures ∙ c.in_ok-text.ensures ∙ ap tree c.items-3.ensures) c.new.ensures
+    c.from_vec.result c.new.result (c.from_vec.ensures ∙ c.in_ok-text.ensures ∙ ap tree c.items-2.ensures) c.new.ensures
 
 pub returns-clause-translation : goal.returns-clause-translation
 returns-clause-translation c =
