@@ -12,7 +12,6 @@ use sml_ast::{Dec, Exp};
 use sml_lex::Token;
 use sml_scope::Scope;
 use std::alloc::Global;
-use tl_text::Boxed;
 
 /// What was read, and the tokens behind it.
 pub type Read<'a, T> = Result<(T, &'a [Token]), ReadError<'a, Token>>;
@@ -38,16 +37,11 @@ pub struct Inside<E, D> {
 
 impl<
     'a,
-    E: Fn(Global, u32, Level, &mut Scope, &'a [Token]) -> Read<'a, Tall<Boxed<Exp>>>,
+    E: Fn(Global, u32, Level, &mut Scope, &'a [Token]) -> Read<'a, Tall<Exp>>,
     D: Fn(Global, u32, &mut Scope, &'a [Token]) -> Read<'a, (Dec, u32)>,
 > Inside<E, D> {
     /// An expression that stands inside.
-    pub fn exp(
-        &self,
-        room: u32,
-        scope: &mut Scope,
-        tokens: &'a [Token],
-    ) -> Read<'a, Tall<Boxed<Exp>>>
+    pub fn exp(&self, room: u32, scope: &mut Scope, tokens: &'a [Token]) -> Read<'a, Tall<Exp>>
         requires nests { Nests self.now.most (E.pre self.now.exp) (E.post self.now.exp) (D.pre self.now.dec) (D.post self.now.dec) }
         requires low { room ≤ self.now.most }
         ensures gives { Gives (λ x. (trees.seen x.0, x.1.now)) result (levels.exp scope.old room tokens.now) }
@@ -62,7 +56,7 @@ impl<
         room: u32,
         scope: &mut Scope,
         tokens: &'a [Token],
-    ) -> Read<'a, Tall<Boxed<Exp>>>
+    ) -> Read<'a, Tall<Exp>>
         requires nests { Nests self.now.most (E.pre self.now.exp) (E.post self.now.exp) (D.pre self.now.dec) (D.post self.now.dec) }
         requires low { room ≤ self.now.most }
         ensures gives { Gives (λ x. (trees.seen x.0, x.1.now)) result (read.behind_and_read room false scope.old tokens.now) }
@@ -77,7 +71,7 @@ impl<
         room: u32,
         scope: &mut Scope,
         tokens: &'a [Token],
-    ) -> Read<'a, Tall<Boxed<Exp>>>
+    ) -> Read<'a, Tall<Exp>>
         requires nests { Nests self.now.most (E.pre self.now.exp) (E.post self.now.exp) (D.pre self.now.dec) (D.post self.now.dec) }
         requires low { room ≤ self.now.most }
         ensures gives { Gives (λ x. (trees.seen x.0, x.1.now)) result (read.behind_or_read room false scope.old tokens.now) }
@@ -93,7 +87,7 @@ impl<
         floor: Floor,
         scope: &mut Scope,
         tokens: &'a [Token],
-    ) -> Read<'a, Tall<Boxed<Exp>>>
+    ) -> Read<'a, Tall<Exp>>
         requires nests { Nests self.now.most (E.pre self.now.exp) (E.post self.now.exp) (D.pre self.now.dec) (D.post self.now.dec) }
         requires low { room ≤ self.now.most }
         ensures gives { Gives (λ x. (trees.seen x.0, x.1.now)) result (read.row_read room false floor scope.old tokens.now) }
@@ -113,7 +107,7 @@ impl<
     }
 
     /// An expression.
-    fn whole(&self, room: u32, scope: &mut Scope, tokens: &'a [Token]) -> Read<'a, Tall<Boxed<Exp>>>
+    fn whole(&self, room: u32, scope: &mut Scope, tokens: &'a [Token]) -> Read<'a, Tall<Exp>>
         requires nests { Nests self.now.most (E.pre self.now.exp) (E.post self.now.exp) (D.pre self.now.dec) (D.post self.now.dec) }
         requires low { room ≤ self.now.most }
         ensures gives { Gives (λ x. (trees.seen x.0, x.1.now)) result (levels.whole scope.old room tokens.now) }
@@ -129,12 +123,7 @@ impl<
     }
 
     /// What stands behind `andalso`: what is as tight as a row with a type, or reaches far.
-    fn and_operand(
-        &self,
-        room: u32,
-        scope: &mut Scope,
-        tokens: &'a [Token],
-    ) -> Read<'a, Tall<Boxed<Exp>>>
+    fn and_operand(&self, room: u32, scope: &mut Scope, tokens: &'a [Token]) -> Read<'a, Tall<Exp>>
         requires nests { Nests self.now.most (E.pre self.now.exp) (E.post self.now.exp) (D.pre self.now.dec) (D.post self.now.dec) }
         requires low { room ≤ self.now.most }
         ensures gives { Gives (λ x. (trees.seen x.0, x.1.now)) result (levels.and_operand scope.old room tokens.now) }
@@ -150,12 +139,7 @@ impl<
     }
 
     /// What stands behind `orelse`: what is as tight as `andalso`, or reaches far.
-    fn or_operand(
-        &self,
-        room: u32,
-        scope: &mut Scope,
-        tokens: &'a [Token],
-    ) -> Read<'a, Tall<Boxed<Exp>>>
+    fn or_operand(&self, room: u32, scope: &mut Scope, tokens: &'a [Token]) -> Read<'a, Tall<Exp>>
         requires nests { Nests self.now.most (E.pre self.now.exp) (E.post self.now.exp) (D.pre self.now.dec) (D.post self.now.dec) }
         requires low { room ≤ self.now.most }
         ensures gives { Gives (λ x. (trees.seen x.0, x.1.now)) result (levels.or_operand scope.old room tokens.now) }
@@ -190,7 +174,7 @@ fn phrase<'a>(
     level: Level,
     scope: &mut Scope,
     tokens: &'a [Token],
-) -> Read<'a, Tall<Boxed<Exp>>>
+) -> Read<'a, Tall<Exp>>
     ensures gives { Gives (λ x. (trees.seen x.0, x.1.now)) result (levels.phrase scope.old room level tokens.now) }
     ensures keeps { OnOk result (scope.new ≡ scope.old) }
 {
@@ -221,7 +205,7 @@ pub fn exp<'a>(
     room: u32,
     scope: &mut Scope,
     tokens: &'a [Token],
-) -> Read<'a, Tall<Boxed<Exp>>>
+) -> Read<'a, Tall<Exp>>
     ensures gives { Gives (λ x. (trees.seen x.0, x.1.now)) result (read.exp_read room false scope.old tokens.now) }
     ensures keeps { OnOk result (scope.new ≡ scope.old) }
 {

@@ -43,11 +43,6 @@ seal_level h = else_if (is COLON) (mapped (read.marked false) (both (token_by (t
 abbrev pub seals : ℕ → Growing → Reader Token Seal
 seals h g = guard (growth begins_ascribe true (read.above g) h) (read.seal_read h)
 
--- ---- a structure expression that grows by ascriptions, as far as they go
-
-abbrev pub all_grown : ℕ → St → Reader Token St
-all_grown h e = mapped read.all_grown (bound (nothing (Growing.Whole e)) (steps read.begins_grow read.grown_by (read.grow_read h)))
-
 -- ---- what follows a binding
 
 abbrev pub more : ℕ → Sx → Reader Token Turned
@@ -119,10 +114,6 @@ bind cs h = bind_read (front h) (base_read h false cs)
 
 abbrev pub binds : Changes → ℕ → Reader Token (List Sb)
 binds cs h = mapped (map strbind_of) (row_level (bind cs h) h)
-
--- the same behind the first binding
-abbrev pub binds_behind : Changes → ℕ → Bind (Ident × Option Ax) → Reader Token (List Sb)
-binds_behind cs h x = mapped (map strbind_of) (mapped read.gathered (bound (nothing x) (steps read.begins_grow read.turned (read.turn_read (bind cs h) h))))
 
 -- ---- declarations
 

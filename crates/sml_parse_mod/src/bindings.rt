@@ -91,7 +91,6 @@ impl<
     }
 
     /// This binding, which is done, and the next one.
-    #[inline(never)]
     fn follow(
         &self,
         last: Bind,
@@ -109,7 +108,6 @@ impl<
     }
 
     /// Behind this binding, where it goes on or another one follows: the binding where it is done, and the one that is last then.
-    #[inline(never)]
     fn step(
         &self,
         last: Bind,
@@ -129,35 +127,6 @@ impl<
         self.follow(next, room, scope, rest)
     }
 
-    /// What follows this binding of a structure, and the bindings behind it, with `and` between. A function of its own, so that the
-    /// stack does not hold it while the first binding is read.
-    #[inline(never)]
-    fn binds_behind(
-        &self,
-        first: Bind,
-        room: u32,
-        scope: &mut Scope,
-        tokens: &'a [Token],
-    ) -> Read<'a, (List<StrBind>, u32)>
-        requires nests { Nests self.now.most (B.pre self.now.base) (B.post self.now.base) (D.pre self.now.dec) (D.post self.now.dec) }
-        requires low { room ≤ self.now.most }
-        ensures gives { Gives (λ x. (x.0, x.1.now)) result (mapped trees.strbinds (levels.binds_behind scope.old room (trees.bind first)) tokens.now) }
-        ensures keeps { OnOk result (scope.new ≡ scope.old) }
-    {
-        let mut last = first;
-        let mut rest = tokens;
-        let mut row = (List::new(self.alloc), 0);
-        'turns: while begins_grow(rest) {
-            let (turn, after) = self.step(last, room, scope, rest)?;
-            let (more, next) = with_turn(row, turn)?;
-            row = more;
-            last = next;
-            rest = after;
-        }
-        let end = strbind(self.alloc, last)?;
-        Ok((added(row, end)?, rest))
-    }
-
     /// Bindings of structures with `and` between.
     fn binds(
         &self,
@@ -170,8 +139,17 @@ impl<
         ensures gives { Gives (λ x. (x.0, x.1.now)) result (mapped trees.strbinds (levels.binds scope.old room) tokens.now) }
         ensures keeps { OnOk result (scope.new ≡ scope.old) }
     {
-        let (first, rest) = self.bind(room, scope, tokens)?;
-        self.binds_behind(first, room, scope, rest)
+        let (mut last, mut rest) = self.bind(room, scope, tokens)?;
+        let mut row = (List::new(self.alloc), 0);
+        'turns: while begins_grow(rest) {
+            let (turn, after) = self.step(last, room, scope, rest)?;
+            let (more, next) = with_turn(row, turn)?;
+            row = more;
+            last = next;
+            rest = after;
+        }
+        let end = strbind(self.alloc, last)?;
+        Ok((added(row, end)?, rest))
     }
 
     /// Bindings of structures, where the structure expressions have this room.

@@ -11,7 +11,8 @@ mod inside;
 mod parse;
 mod tree;
 
-pub use parse::{parse_ty, ty};
+pub use inside::ty;
+pub use parse::parse_ty;
 
 #[cfg(test)]
 mod tests;
