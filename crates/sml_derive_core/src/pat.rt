@@ -39,6 +39,7 @@ pub fn derive_at_pat(alloc: Global, pat: &AtPat) -> Result<BareAtPat, NoMemory>
 
 /// The field of a record pattern without derived forms.
 #[cycle(derive_pat)]
+#[inline(never)]
 fn derive_field(alloc: Global, field: &PField) -> Result<BarePField, NoMemory>
     ensures { IfOk result (λ f. f ≡ derived_field field.now) }
 {
@@ -90,6 +91,7 @@ pub fn derive_pat(alloc: Global, pat: &Pat) -> Result<BarePat, NoMemory>
 
 /// The patterns of a row.
 #[cycle(derive_pat)]
+#[inline(never)]
 fn derive_pats(alloc: Global, pats: &[Pat]) -> Result<List<BarePat>, NoMemory>
     ensures { IfOk result (λ qs. qs ≡ map derived_pat pats.now) }
 {
@@ -102,6 +104,7 @@ fn derive_pats(alloc: Global, pats: &[Pat]) -> Result<List<BarePat>, NoMemory>
 
 /// The fields of a record pattern.
 #[cycle(derive_pat)]
+#[inline(never)]
 fn derive_fields(alloc: Global, fields: &[PField]) -> Result<List<BarePField>, NoMemory>
     ensures { IfOk result (λ fs. fs ≡ map derived_field fields.now) }
 {
@@ -113,6 +116,7 @@ fn derive_fields(alloc: Global, fields: &[PField]) -> Result<List<BarePField>, N
 }
 
 /// A row of patterns under the labels from 1 on.
+#[inline(never)]
 fn number_fields(
     alloc: Global,
     place: Place,
@@ -163,6 +167,7 @@ fn pun_pat(
 }
 
 /// The field that `x : t as p` alone in a record pattern stands for.
+#[inline(never)]
 fn pun_field(
     alloc: Global,
     place: Place,

@@ -4,12 +4,16 @@ ghost use Rattle.std.specs.Prelude.{◌≡◌, ◌∷◌, IfOk, map};
 ghost use Rattle.tl_text.specs.Pairs.{map_second};
 ghost use Rattle.sml_derive_core.specs.Patterns.{derived_pat};
 ghost use Rattle.sml_derive_exp.specs.Declarations.{derived_at_exp, derived_clause, derived_dec, derived_exp, derived_rule};
+ghost use Rattle.sml_derive_forms.specs.Expressions as forms;
 ghost use Rattle.sml_derive_forms.specs.Functions as spec;
+ghost use Rattle.sml_derive_core.specs.Types.{derived_ty};
+ghost use Rattle.sml_ast.specs.declared.bare_exp.BareExp.TheVariants as made;
 
 use crate::clauses::{clause, derive_pair};
 use crate::phrases::{handle, infix, let_in, raise, seq, typed};
 use sml_ast::{
-    AtExp, BareAtExp, BareDec, BareExp, BarePat, BareRule, Clause, Dec, Exp, Label, Pat, Rule,
+    AtExp, BareAtExp, BareDec, BareExp, BarePat, BareRule, Clause, Dec, Exp, Ident, Label, Pat,
+    Rule, Ty,
 };
 use sml_derive_core::{
     copy_ident, copy_idents, copy_label, copy_lit, copy_long, copy_longs, derive_ex_binds,
@@ -24,6 +28,7 @@ use tl_text::{Boxed, List, NoMemory, Place};
 
 /// The atomic expression without derived forms.
 #[cycle(derive_exp)]
+#[inline(never)]
 fn derive_at_exp(alloc: Global, exp: &AtExp) -> Result<BareAtExp, NoMemory>
     ensures { IfOk result (λ a. a ≡ derived_at_exp exp.now) }
 {
@@ -57,80 +62,172 @@ fn derive_at_exp(alloc: Global, exp: &AtExp) -> Result<BareAtExp, NoMemory>
     }
 }
 
-/// The expression without derived forms.
+/// The expression without derived forms. Each alternative is a function of its own, so that a level of nesting holds no more on
+/// the stack than its own alternative needs.
 #[cycle(derive_exp)]
 pub fn derive_exp(alloc: Global, exp: &Exp) -> Result<BareExp, NoMemory>
     ensures { IfOk result (λ e. e ≡ derived_exp exp.now) }
 {
     match exp {
-        Exp::Apply(p, atoms) => Ok(BareExp::Apply(*p, derive_at_exps(alloc, atoms.items())?)),
+        Exp::Apply(p, atoms) => derive_apply(alloc, *p, atoms.items()),
         Exp::Infix(p, left, name, right) => {
-            let (left, right) = derive_two(alloc, left.get(), right.get())?;
-            infix(alloc, *p, left, name, right)
+            derive_infix(alloc, *p, left.get(), name, right.get())
         },
-        Exp::Typed(p, inner, ty) => {
-            let inner = derive_exp(alloc, inner.get())?;
-            typed(alloc, *p, inner, ty)
-        },
-        Exp::AndAlso(p, left, right) => {
-            let (left, right) = derive_two(alloc, left.get(), right.get())?;
-            both(alloc, *p, left, right)
-        },
-        Exp::OrElse(p, left, right) => {
-            let (left, right) = derive_two(alloc, left.get(), right.get())?;
-            either(alloc, *p, left, right)
-        },
-        Exp::Handle(p, inner, rules) => {
-            let (inner, rules) = derive_match(alloc, inner.get(), rules.items())?;
-            handle(alloc, *p, inner, rules)
-        },
-        Exp::Raise(p, inner) => {
-            let inner = derive_exp(alloc, inner.get())?;
-            raise(alloc, *p, inner)
-        },
+        Exp::Typed(p, inner, ty) => derive_typed(alloc, *p, inner.get(), ty),
+        Exp::AndAlso(p, left, right) => derive_both(alloc, *p, left.get(), right.get()),
+        Exp::OrElse(p, left, right) => derive_either(alloc, *p, left.get(), right.get()),
+        Exp::Handle(p, inner, rules) => derive_handle(alloc, *p, inner.get(), rules.items()),
+        Exp::Raise(p, inner) => derive_raise(alloc, *p, inner.get()),
         Exp::If(p, test, first, other) => {
-            let test = derive_exp(alloc, test.get())?;
-            let (first, other) = derive_two(alloc, first.get(), other.get())?;
-            choice(alloc, *p, test, first, other)
+            derive_if(alloc, *p, test.get(), first.get(), other.get())
         },
-        Exp::While(p, test, action) => {
-            let (test, action) = derive_two(alloc, test.get(), action.get())?;
-            repeat(alloc, *p, test, action)
-        },
-        Exp::Case(p, inner, rules) => {
-            let (inner, rules) = derive_match(alloc, inner.get(), rules.items())?;
-            case_of(alloc, *p, inner, rules)
-        },
-        Exp::Fn(p, rules) => Ok(BareExp::Fn(*p, derive_rules(alloc, rules.items())?)),
+        Exp::While(p, test, action) => derive_while(alloc, *p, test.get(), action.get()),
+        Exp::Case(p, inner, rules) => derive_case(alloc, *p, inner.get(), rules.items()),
+        Exp::Fn(p, rules) => derive_fn(alloc, *p, rules.items()),
     }
 }
 
-/// Two expressions.
+/// `f x y`
 #[cycle(derive_exp)]
-fn derive_two(alloc: Global, left: &Exp, right: &Exp) -> Result<(BareExp, BareExp), NoMemory>
-    ensures { IfOk result (λ es. es ≡ (derived_exp left.now, derived_exp right.now)) }
+#[inline(never)]
+fn derive_apply(alloc: Global, place: Place, atoms: &[AtExp]) -> Result<BareExp, NoMemory>
+    ensures { IfOk result (λ e. e ≡ made.Apply place (map derived_at_exp atoms.now)) }
+{
+    Ok(BareExp::Apply(place, derive_at_exps(alloc, atoms)?))
+}
+
+/// `left name right`
+#[cycle(derive_exp)]
+#[inline(never)]
+fn derive_infix(
+    alloc: Global,
+    place: Place,
+    left: &Exp,
+    name: &Ident,
+    right: &Exp,
+) -> Result<BareExp, NoMemory>
+    ensures { IfOk result (λ e. e ≡ made.Infix place (derived_exp left.now) name.now (derived_exp right.now)) }
 {
     let left = derive_exp(alloc, left)?;
     let right = derive_exp(alloc, right)?;
-    Ok((left, right))
+    infix(alloc, place, left, name, right)
 }
 
-/// An expression and the rules of a match.
+/// `inner : ty`
 #[cycle(derive_exp)]
-fn derive_match(
-    alloc: Global,
-    exp: &Exp,
-    rules: &[Rule],
-) -> Result<(BareExp, List<BareRule>), NoMemory>
-    ensures { IfOk result (λ r. r ≡ (derived_exp exp.now, map derived_rule rules.now)) }
+#[inline(never)]
+fn derive_typed(alloc: Global, place: Place, inner: &Exp, ty: &Ty) -> Result<BareExp, NoMemory>
+    ensures { IfOk result (λ e. e ≡ made.Typed place (derived_exp inner.now) (derived_ty ty.now)) }
 {
-    let exp = derive_exp(alloc, exp)?;
+    let inner = derive_exp(alloc, inner)?;
+    typed(alloc, place, inner, ty)
+}
+
+/// `left andalso right`
+#[cycle(derive_exp)]
+#[inline(never)]
+fn derive_both(alloc: Global, place: Place, left: &Exp, right: &Exp) -> Result<BareExp, NoMemory>
+    ensures { IfOk result (λ e. e ≡ forms.both place (derived_exp left.now) (derived_exp right.now)) }
+{
+    let left = derive_exp(alloc, left)?;
+    let right = derive_exp(alloc, right)?;
+    both(alloc, place, left, right)
+}
+
+/// `left orelse right`
+#[cycle(derive_exp)]
+#[inline(never)]
+fn derive_either(alloc: Global, place: Place, left: &Exp, right: &Exp) -> Result<BareExp, NoMemory>
+    ensures { IfOk result (λ e. e ≡ forms.either place (derived_exp left.now) (derived_exp right.now)) }
+{
+    let left = derive_exp(alloc, left)?;
+    let right = derive_exp(alloc, right)?;
+    either(alloc, place, left, right)
+}
+
+/// `inner handle rules`
+#[cycle(derive_exp)]
+#[inline(never)]
+fn derive_handle(
+    alloc: Global,
+    place: Place,
+    inner: &Exp,
+    rules: &[Rule],
+) -> Result<BareExp, NoMemory>
+    ensures { IfOk result (λ e. e ≡ made.Handle place (derived_exp inner.now) (map derived_rule rules.now)) }
+{
+    let inner = derive_exp(alloc, inner)?;
     let rules = derive_rules(alloc, rules)?;
-    Ok((exp, rules))
+    handle(alloc, place, inner, rules)
+}
+
+/// `raise inner`
+#[cycle(derive_exp)]
+#[inline(never)]
+fn derive_raise(alloc: Global, place: Place, inner: &Exp) -> Result<BareExp, NoMemory>
+    ensures { IfOk result (λ e. e ≡ made.Raise place (derived_exp inner.now)) }
+{
+    let inner = derive_exp(alloc, inner)?;
+    raise(alloc, place, inner)
+}
+
+/// `if test then first else other`
+#[cycle(derive_exp)]
+#[inline(never)]
+fn derive_if(
+    alloc: Global,
+    place: Place,
+    test: &Exp,
+    first: &Exp,
+    other: &Exp,
+) -> Result<BareExp, NoMemory>
+    ensures { IfOk result (λ e. e ≡ forms.choice place (derived_exp test.now) (derived_exp first.now) (derived_exp other.now)) }
+{
+    let test = derive_exp(alloc, test)?;
+    let first = derive_exp(alloc, first)?;
+    let other = derive_exp(alloc, other)?;
+    choice(alloc, place, test, first, other)
+}
+
+/// `while test do action`
+#[cycle(derive_exp)]
+#[inline(never)]
+fn derive_while(alloc: Global, place: Place, test: &Exp, action: &Exp) -> Result<BareExp, NoMemory>
+    ensures { IfOk result (λ e. e ≡ forms.repeat place (derived_exp test.now) (derived_exp action.now)) }
+{
+    let test = derive_exp(alloc, test)?;
+    let action = derive_exp(alloc, action)?;
+    repeat(alloc, place, test, action)
+}
+
+/// `case inner of rules`
+#[cycle(derive_exp)]
+#[inline(never)]
+fn derive_case(
+    alloc: Global,
+    place: Place,
+    inner: &Exp,
+    rules: &[Rule],
+) -> Result<BareExp, NoMemory>
+    ensures { IfOk result (λ e. e ≡ forms.case_of place (derived_exp inner.now) (map derived_rule rules.now)) }
+{
+    let inner = derive_exp(alloc, inner)?;
+    let rules = derive_rules(alloc, rules)?;
+    case_of(alloc, place, inner, rules)
+}
+
+/// `fn rules`
+#[cycle(derive_exp)]
+#[inline(never)]
+fn derive_fn(alloc: Global, place: Place, rules: &[Rule]) -> Result<BareExp, NoMemory>
+    ensures { IfOk result (λ e. e ≡ made.Fn place (map derived_rule rules.now)) }
+{
+    Ok(BareExp::Fn(place, derive_rules(alloc, rules)?))
 }
 
 /// The rule without derived forms.
 #[cycle(derive_exp)]
+#[inline(never)]
 fn derive_rule(alloc: Global, rule: &Rule) -> Result<BareRule, NoMemory>
     ensures { IfOk result (λ r. r ≡ derived_rule rule.now) }
 {
@@ -144,6 +241,7 @@ fn derive_rule(alloc: Global, rule: &Rule) -> Result<BareRule, NoMemory>
 
 /// The declaration without derived forms.
 #[cycle(derive_exp)]
+#[inline(never)]
 pub fn derive_dec(alloc: Global, dec: &Dec) -> Result<BareDec, NoMemory>
     ensures { IfOk result (λ d. d ≡ derived_dec dec.now) }
 {
@@ -181,6 +279,7 @@ pub fn derive_dec(alloc: Global, dec: &Dec) -> Result<BareDec, NoMemory>
 
 /// The clause with its parts derived.
 #[cycle(derive_exp)]
+#[inline(never)]
 fn derive_clause(alloc: Global, syntax: &Clause) -> Result<BareClause, NoMemory>
     ensures { IfOk result (λ c. c ≡ derived_clause syntax.now) }
 {
@@ -278,6 +377,7 @@ fn derive_decs(alloc: Global, decs: &[Dec]) -> Result<List<BareDec>, NoMemory>
 
 /// The bindings of values of a row.
 #[cycle(derive_exp)]
+#[inline(never)]
 fn derive_binds(alloc: Global, binds: &[(Pat, Exp)]) -> Result<List<(BarePat, BareExp)>, NoMemory>
     ensures { IfOk result (λ bs. bs ≡ map (λ b. (derived_pat b.0, b.1)) (map_second derived_exp binds.now)) }
 {
@@ -291,6 +391,7 @@ fn derive_binds(alloc: Global, binds: &[(Pat, Exp)]) -> Result<List<(BarePat, Ba
 
 /// The functions of a declaration that stands at `place`.
 #[cycle(derive_exp)]
+#[inline(never)]
 fn derive_functions(
     alloc: Global,
     place: Place,

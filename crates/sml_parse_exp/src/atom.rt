@@ -23,7 +23,7 @@ use sml_parse_pat::{begins_name, name};
 use sml_scan::{above, behind, constant, is_constant, is_label, is_next, place_of, record_label};
 use sml_scope::Scope;
 use std::alloc::Global;
-use tl_text::{List, Place};
+use tl_text::{Boxed, List, Place};
 
 const END: u32 = 7;
 
@@ -53,11 +53,16 @@ const HASH: u32 = 57;
 
 impl<
     'a,
-    E: Fn(Global, u32, Level, &mut Scope, &'a [Token]) -> Read<'a, Tall<Exp>>,
+    E: Fn(Global, u32, Level, &mut Scope, &'a [Token]) -> Read<'a, Tall<Boxed<Exp>>>,
     D: Fn(Global, u32, &mut Scope, &'a [Token]) -> Read<'a, (Dec, u32)>,
 > Inside<E, D> {
     /// `= e`
-    pub fn value(&self, room: u32, scope: &mut Scope, tokens: &'a [Token]) -> Read<'a, Tall<Exp>>
+    pub fn value(
+        &self,
+        room: u32,
+        scope: &mut Scope,
+        tokens: &'a [Token],
+    ) -> Read<'a, Tall<Boxed<Exp>>>
         requires nests { Nests self.now.most (E.pre self.now.exp) (E.post self.now.exp) (D.pre self.now.dec) (D.post self.now.dec) }
         requires low { room ≤ self.now.most }
         ensures gives { Gives (λ x. (trees.seen x.0, x.1.now)) result (levels.value scope.old room tokens.now) }
@@ -73,7 +78,7 @@ impl<
         room: u32,
         scope: &mut Scope,
         tokens: &'a [Token],
-    ) -> Read<'a, (Label, Tall<Exp>)>
+    ) -> Read<'a, (Label, Tall<Boxed<Exp>>)>
         requires nests { Nests self.now.most (E.pre self.now.exp) (E.post self.now.exp) (D.pre self.now.dec) (D.post self.now.dec) }
         requires low { room ≤ self.now.most }
         ensures gives { Gives (λ x. ((x.0.0, trees.seen x.0.1), x.1.now)) result (read.field_read (levels.exp scope.old room) tokens.now) }
@@ -99,12 +104,12 @@ impl<
         let (first, mut rest) = self.field(room, scope, tokens)?;
         let mut found = List::new(self.alloc);
         let mut height = first.1.height;
-        found.push((first.0, first.1.tree))?;
+        found.push((first.0, first.1.tree.into_inner()))?;
         'items: while is_next(COMMA, rest) {
             let after = behind(COMMA, rest)?;
             let (other, after) = self.field(room, scope, after)?;
             height = higher(height, other.1.height);
-            found.push((other.0, other.1.tree))?;
+            found.push((other.0, other.1.tree.into_inner()))?;
             rest = after;
         }
         Ok(((found, height), rest))
@@ -155,12 +160,12 @@ impl<
         let (first, mut rest) = self.exp(room, scope, tokens)?;
         let mut found = List::new(self.alloc);
         let mut height = first.height;
-        found.push(first.tree)?;
+        found.push(first.tree.into_inner())?;
         'items: while is_next(separator, rest) {
             let after = behind(separator, rest)?;
             let (other, after) = self.exp(room, scope, after)?;
             height = higher(height, other.height);
-            found.push(other.tree)?;
+            found.push(other.tree.into_inner())?;
             rest = after;
         }
         Ok(((found, height), rest))
@@ -249,7 +254,7 @@ impl<
     {
         let (first, rest) = self.exp(room, scope, tokens)?;
         let (others, rest) = self.behind_first(room, scope, rest)?;
-        let atom = closed(self.alloc, place, first, others)?;
+        let atom = closed(place, first, others)?;
         Ok((atom, rest))
     }
 

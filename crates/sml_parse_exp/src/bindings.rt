@@ -19,7 +19,7 @@ use sml_parse_pat::pat;
 use sml_scan::{above, behind, is_next};
 use sml_scope::Scope;
 use std::alloc::Global;
-use tl_text::{List, Place};
+use tl_text::{Boxed, List, Place};
 
 const REC: u32 = 24;
 
@@ -27,7 +27,7 @@ const AND: u32 = 56;
 
 impl<
     'a,
-    E: Fn(Global, u32, Level, &mut Scope, &'a [Token]) -> Read<'a, Tall<Exp>>,
+    E: Fn(Global, u32, Level, &mut Scope, &'a [Token]) -> Read<'a, Tall<Boxed<Exp>>>,
     D: Fn(Global, u32, &mut Scope, &'a [Token]) -> Read<'a, (Dec, u32)>,
 > Inside<E, D> {
     /// `p = e`, with the height of the higher part.
@@ -45,7 +45,7 @@ impl<
         let (pat, rest) = pat(self.alloc, room, scope.fixities(), tokens)?;
         let (exp, rest) = self.value(room, scope, rest)?;
         let height = higher(pat.1, exp.height);
-        Ok((((pat.0, exp.tree), height), rest))
+        Ok((((pat.0, exp.tree.into_inner()), height), rest))
     }
 
     /// One binding or more.

@@ -22,7 +22,7 @@ use sml_parse_ty::ty;
 use sml_scan::{above, behind, is_next};
 use sml_scope::Scope;
 use std::alloc::Global;
-use tl_text::{List, Place};
+use tl_text::{Boxed, List, Place};
 
 const COLON: u32 = 47;
 
@@ -65,7 +65,7 @@ fn front<'a>(
 
 impl<
     'a,
-    E: Fn(Global, u32, Level, &mut Scope, &'a [Token]) -> Read<'a, Tall<Exp>>,
+    E: Fn(Global, u32, Level, &mut Scope, &'a [Token]) -> Read<'a, Tall<Boxed<Exp>>>,
     D: Fn(Global, u32, &mut Scope, &'a [Token]) -> Read<'a, (Dec, u32)>,
 > Inside<E, D> {
     /// A clause, where what stands inside has this room.

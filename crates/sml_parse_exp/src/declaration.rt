@@ -19,7 +19,7 @@ use sml_parse_bind::{
 use sml_scan::{above, behind, is_next, place_of};
 use sml_scope::Scope;
 use std::alloc::Global;
-use tl_text::{List, NoMemory, Place};
+use tl_text::{Boxed, List, NoMemory, Place};
 
 const ABSTYPE: u32 = 0;
 
@@ -73,7 +73,7 @@ fn note_all(scope: &mut Scope, names: &[Ident], fixity: Option<(u8, Side)>) -> R
 
 impl<
     'a,
-    E: Fn(Global, u32, Level, &mut Scope, &'a [Token]) -> Read<'a, Tall<Exp>>,
+    E: Fn(Global, u32, Level, &mut Scope, &'a [Token]) -> Read<'a, Tall<Boxed<Exp>>>,
     D: Fn(Global, u32, &mut Scope, &'a [Token]) -> Read<'a, (Dec, u32)>,
 > Inside<E, D> {
     /// Behind `infix` or `infixr`.

@@ -17,7 +17,7 @@ use sml_lex::Token;
 use sml_scan::{behind, is_next};
 use sml_scope::Scope;
 use std::alloc::Global;
-use tl_text::List;
+use tl_text::{Boxed, List};
 
 const SEMICOLON: u32 = 49;
 
@@ -34,7 +34,7 @@ fn semis(tokens: &[Token]) -> Result<&[Token], ReadError<'_, Token>>
 
 impl<
     'a,
-    E: Fn(Global, u32, Level, &mut Scope, &'a [Token]) -> Read<'a, Tall<Exp>>,
+    E: Fn(Global, u32, Level, &mut Scope, &'a [Token]) -> Read<'a, Tall<Boxed<Exp>>>,
     D: Fn(Global, u32, &mut Scope, &'a [Token]) -> Read<'a, (Dec, u32)>,
 > Inside<E, D> {
     /// A declaration and the semicolons behind it.

@@ -15,7 +15,7 @@ use sml_lex::Token;
 use sml_scan::{behind, is_next, place_of};
 use sml_scope::Scope;
 use std::alloc::Global;
-use tl_text::Place;
+use tl_text::{Boxed, Place};
 
 const CASE: u32 = 3;
 
@@ -37,7 +37,7 @@ const WHILE: u32 = 30;
 
 impl<
     'a,
-    E: Fn(Global, u32, Level, &mut Scope, &'a [Token]) -> Read<'a, Tall<Exp>>,
+    E: Fn(Global, u32, Level, &mut Scope, &'a [Token]) -> Read<'a, Tall<Boxed<Exp>>>,
     D: Fn(Global, u32, &mut Scope, &'a [Token]) -> Read<'a, (Dec, u32)>,
 > Inside<E, D> {
     /// Behind `raise`.
@@ -47,7 +47,7 @@ impl<
         room: u32,
         scope: &mut Scope,
         tokens: &'a [Token],
-    ) -> Read<'a, Tall<Exp>>
+    ) -> Read<'a, Tall<Boxed<Exp>>>
         requires nests { Nests self.now.most (E.pre self.now.exp) (E.post self.now.exp) (D.pre self.now.dec) (D.post self.now.dec) }
         requires low { room ≤ self.now.most }
         ensures gives { Gives (λ x. (trees.seen x.0, x.1.now)) result (mapped (λ x. grammar.raise_of (place, x)) (levels.exp scope.old room) tokens.now) }
@@ -63,7 +63,7 @@ impl<
         room: u32,
         scope: &mut Scope,
         tokens: &'a [Token],
-    ) -> Read<'a, (Tall<Exp>, Tall<Exp>)>
+    ) -> Read<'a, (Tall<Boxed<Exp>>, Tall<Boxed<Exp>>)>
         requires nests { Nests self.now.most (E.pre self.now.exp) (E.post self.now.exp) (D.pre self.now.dec) (D.post self.now.dec) }
         requires low { room ≤ self.now.most }
         ensures gives { Gives (λ x. ((trees.seen x.0.0, trees.seen x.0.1), x.1.now)) result (levels.branches scope.old room tokens.now) }
@@ -83,7 +83,7 @@ impl<
         room: u32,
         scope: &mut Scope,
         tokens: &'a [Token],
-    ) -> Read<'a, Tall<Exp>>
+    ) -> Read<'a, Tall<Boxed<Exp>>>
         requires nests { Nests self.now.most (E.pre self.now.exp) (E.post self.now.exp) (D.pre self.now.dec) (D.post self.now.dec) }
         requires low { room ≤ self.now.most }
         ensures gives { Gives (λ x. (trees.seen x.0, x.1.now)) result (mapped (λ x. grammar.if_of (place, x)) (levels.conditional scope.old room) tokens.now) }
@@ -101,7 +101,7 @@ impl<
         room: u32,
         scope: &mut Scope,
         tokens: &'a [Token],
-    ) -> Read<'a, Tall<Exp>>
+    ) -> Read<'a, Tall<Boxed<Exp>>>
         requires nests { Nests self.now.most (E.pre self.now.exp) (E.post self.now.exp) (D.pre self.now.dec) (D.post self.now.dec) }
         requires low { room ≤ self.now.most }
         ensures gives { Gives (λ x. (trees.seen x.0, x.1.now)) result (mapped (λ x. grammar.while_of (place, x)) (levels.repetition scope.old room) tokens.now) }
@@ -120,7 +120,7 @@ impl<
         room: u32,
         scope: &mut Scope,
         tokens: &'a [Token],
-    ) -> Read<'a, Tall<Exp>>
+    ) -> Read<'a, Tall<Boxed<Exp>>>
         requires nests { Nests self.now.most (E.pre self.now.exp) (E.post self.now.exp) (D.pre self.now.dec) (D.post self.now.dec) }
         requires low { room ≤ self.now.most }
         ensures gives { Gives (λ x. (trees.seen x.0, x.1.now)) result (mapped (λ x. grammar.case_of (place, x)) (levels.case_parts scope.old room) tokens.now) }
@@ -139,18 +139,23 @@ impl<
         room: u32,
         scope: &mut Scope,
         tokens: &'a [Token],
-    ) -> Read<'a, Tall<Exp>>
+    ) -> Read<'a, Tall<Boxed<Exp>>>
         requires nests { Nests self.now.most (E.pre self.now.exp) (E.post self.now.exp) (D.pre self.now.dec) (D.post self.now.dec) }
         requires low { room ≤ self.now.most }
         ensures gives { Gives (λ x. (trees.seen x.0, x.1.now)) result (mapped (λ x. grammar.fn_of (place, x)) (levels.rules scope.old room) tokens.now) }
         ensures keeps { OnOk result (scope.new ≡ scope.old) }
     {
         let (rules, rest) = self.rules(room, scope, tokens)?;
-        Ok((function(place, rules)?, rest))
+        Ok((function(self.alloc, place, rules)?, rest))
     }
 
     /// `case e of p => f`, `fn p => e`
-    fn far_match(&self, room: u32, scope: &mut Scope, tokens: &'a [Token]) -> Read<'a, Tall<Exp>>
+    fn far_match(
+        &self,
+        room: u32,
+        scope: &mut Scope,
+        tokens: &'a [Token],
+    ) -> Read<'a, Tall<Boxed<Exp>>>
         requires nests { Nests self.now.most (E.pre self.now.exp) (E.post self.now.exp) (D.pre self.now.dec) (D.post self.now.dec) }
         requires low { room ≤ self.now.most }
         ensures gives { Gives (λ x. (trees.seen x.0, x.1.now)) result (levels.far_match scope.old room tokens.now) }
@@ -174,7 +179,12 @@ impl<
     }
 
     /// `if`, `while`, `case` or `fn`.
-    fn far_choice(&self, room: u32, scope: &mut Scope, tokens: &'a [Token]) -> Read<'a, Tall<Exp>>
+    fn far_choice(
+        &self,
+        room: u32,
+        scope: &mut Scope,
+        tokens: &'a [Token],
+    ) -> Read<'a, Tall<Boxed<Exp>>>
         requires nests { Nests self.now.most (E.pre self.now.exp) (E.post self.now.exp) (D.pre self.now.dec) (D.post self.now.dec) }
         requires low { room ≤ self.now.most }
         ensures gives { Gives (λ x. (trees.seen x.0, x.1.now)) result (levels.far_choice scope.old room tokens.now) }
@@ -198,7 +208,12 @@ impl<
     }
 
     /// An expression that reaches as far to the right as it can.
-    pub fn far(&self, room: u32, scope: &mut Scope, tokens: &'a [Token]) -> Read<'a, Tall<Exp>>
+    pub fn far(
+        &self,
+        room: u32,
+        scope: &mut Scope,
+        tokens: &'a [Token],
+    ) -> Read<'a, Tall<Boxed<Exp>>>
         requires nests { Nests self.now.most (E.pre self.now.exp) (E.post self.now.exp) (D.pre self.now.dec) (D.post self.now.dec) }
         requires low { room ≤ self.now.most }
         ensures gives { Gives (λ x. (trees.seen x.0, x.1.now)) result (levels.far scope.old room tokens.now) }

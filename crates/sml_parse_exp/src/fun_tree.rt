@@ -6,7 +6,7 @@ use crate::tall::Tall;
 use sml_ast::{AtPat, Clause, Exp, Ty};
 use sml_parse_bind::Head;
 use sml_scan::above;
-use tl_text::{NoMemory, Place};
+use tl_text::{Boxed, NoMemory, Place};
 
 /// The place of the first token.
 fn pat_place(atom: &AtPat) -> Place
@@ -44,12 +44,12 @@ pub fn clause(
     head: Head,
     ty: Option<Ty>,
     height: u32,
-    body: Tall<Exp>,
+    body: Tall<Boxed<Exp>>,
 ) -> Result<Tall<Clause>, NoMemory>
     ensures { IfOk result (λ x. trees.seen x ≡ spec.clause head ty height (trees.seen body)) }
 {
     let height = above(height, body.height)?;
     let ends = body.ends;
-    let tree = clause_tree(head, ty, body.tree);
+    let tree = clause_tree(head, ty, body.tree.into_inner());
     Ok(Tall { tree, ends, height })
 }

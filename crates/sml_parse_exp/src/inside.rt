@@ -12,6 +12,7 @@ use sml_ast::{Dec, Exp};
 use sml_lex::Token;
 use sml_scope::Scope;
 use std::alloc::Global;
+use tl_text::Boxed;
 
 /// What was read, and the tokens behind it.
 pub type Read<'a, T> = Result<(T, &'a [Token]), ReadError<'a, Token>>;
@@ -37,11 +38,16 @@ pub struct Inside<E, D> {
 
 impl<
     'a,
-    E: Fn(Global, u32, Level, &mut Scope, &'a [Token]) -> Read<'a, Tall<Exp>>,
+    E: Fn(Global, u32, Level, &mut Scope, &'a [Token]) -> Read<'a, Tall<Boxed<Exp>>>,
     D: Fn(Global, u32, &mut Scope, &'a [Token]) -> Read<'a, (Dec, u32)>,
 > Inside<E, D> {
     /// An expression that stands inside.
-    pub fn exp(&self, room: u32, scope: &mut Scope, tokens: &'a [Token]) -> Read<'a, Tall<Exp>>
+    pub fn exp(
+        &self,
+        room: u32,
+        scope: &mut Scope,
+        tokens: &'a [Token],
+    ) -> Read<'a, Tall<Boxed<Exp>>>
         requires nests { Nests self.now.most (E.pre self.now.exp) (E.post self.now.exp) (D.pre self.now.dec) (D.post self.now.dec) }
         requires low { room ≤ self.now.most }
         ensures gives { Gives (λ x. (trees.seen x.0, x.1.now)) result (levels.exp scope.old room tokens.now) }
@@ -56,7 +62,7 @@ impl<
         room: u32,
         scope: &mut Scope,
         tokens: &'a [Token],
-    ) -> Read<'a, Tall<Exp>>
+    ) -> Read<'a, Tall<Boxed<Exp>>>
         requires nests { Nests self.now.most (E.pre self.now.exp) (E.post self.now.exp) (D.pre self.now.dec) (D.post self.now.dec) }
         requires low { room ≤ self.now.most }
         ensures gives { Gives (λ x. (trees.seen x.0, x.1.now)) result (read.behind_and_read room false scope.old tokens.now) }
@@ -71,7 +77,7 @@ impl<
         room: u32,
         scope: &mut Scope,
         tokens: &'a [Token],
-    ) -> Read<'a, Tall<Exp>>
+    ) -> Read<'a, Tall<Boxed<Exp>>>
         requires nests { Nests self.now.most (E.pre self.now.exp) (E.post self.now.exp) (D.pre self.now.dec) (D.post self.now.dec) }
         requires low { room ≤ self.now.most }
         ensures gives { Gives (λ x. (trees.seen x.0, x.1.now)) result (read.behind_or_read room false scope.old tokens.now) }
@@ -87,7 +93,7 @@ impl<
         floor: Floor,
         scope: &mut Scope,
         tokens: &'a [Token],
-    ) -> Read<'a, Tall<Exp>>
+    ) -> Read<'a, Tall<Boxed<Exp>>>
         requires nests { Nests self.now.most (E.pre self.now.exp) (E.post self.now.exp) (D.pre self.now.dec) (D.post self.now.dec) }
         requires low { room ≤ self.now.most }
         ensures gives { Gives (λ x. (trees.seen x.0, x.1.now)) result (read.row_read room false floor scope.old tokens.now) }
@@ -107,7 +113,7 @@ impl<
     }
 
     /// An expression.
-    fn whole(&self, room: u32, scope: &mut Scope, tokens: &'a [Token]) -> Read<'a, Tall<Exp>>
+    fn whole(&self, room: u32, scope: &mut Scope, tokens: &'a [Token]) -> Read<'a, Tall<Boxed<Exp>>>
         requires nests { Nests self.now.most (E.pre self.now.exp) (E.post self.now.exp) (D.pre self.now.dec) (D.post self.now.dec) }
         requires low { room ≤ self.now.most }
         ensures gives { Gives (λ x. (trees.seen x.0, x.1.now)) result (levels.whole scope.old room tokens.now) }
@@ -123,7 +129,12 @@ impl<
     }
 
     /// What stands behind `andalso`: what is as tight as a row with a type, or reaches far.
-    fn and_operand(&self, room: u32, scope: &mut Scope, tokens: &'a [Token]) -> Read<'a, Tall<Exp>>
+    fn and_operand(
+        &self,
+        room: u32,
+        scope: &mut Scope,
+        tokens: &'a [Token],
+    ) -> Read<'a, Tall<Boxed<Exp>>>
         requires nests { Nests self.now.most (E.pre self.now.exp) (E.post self.now.exp) (D.pre self.now.dec) (D.post self.now.dec) }
         requires low { room ≤ self.now.most }
         ensures gives { Gives (λ x. (trees.seen x.0, x.1.now)) result (levels.and_operand scope.old room tokens.now) }
@@ -139,7 +150,12 @@ impl<
     }
 
     /// What stands behind `orelse`: what is as tight as `andalso`, or reaches far.
-    fn or_operand(&self, room: u32, scope: &mut Scope, tokens: &'a [Token]) -> Read<'a, Tall<Exp>>
+    fn or_operand(
+        &self,
+        room: u32,
+        scope: &mut Scope,
+        tokens: &'a [Token],
+    ) -> Read<'a, Tall<Boxed<Exp>>>
         requires nests { Nests self.now.most (E.pre self.now.exp) (E.post self.now.exp) (D.pre self.now.dec) (D.post self.now.dec) }
         requires low { room ≤ self.now.most }
         ensures gives { Gives (λ x. (trees.seen x.0, x.1.now)) result (levels.or_operand scope.old room tokens.now) }
@@ -174,7 +190,7 @@ fn phrase<'a>(
     level: Level,
     scope: &mut Scope,
     tokens: &'a [Token],
-) -> Read<'a, Tall<Exp>>
+) -> Read<'a, Tall<Boxed<Exp>>>
     ensures gives { Gives (λ x. (trees.seen x.0, x.1.now)) result (levels.phrase scope.old room level tokens.now) }
     ensures keeps { OnOk result (scope.new ≡ scope.old) }
 {
@@ -205,7 +221,7 @@ pub fn exp<'a>(
     room: u32,
     scope: &mut Scope,
     tokens: &'a [Token],
-) -> Read<'a, Tall<Exp>>
+) -> Read<'a, Tall<Boxed<Exp>>>
     ensures gives { Gives (λ x. (trees.seen x.0, x.1.now)) result (read.exp_read room false scope.old tokens.now) }
     ensures keeps { OnOk result (scope.new ≡ scope.old) }
 {

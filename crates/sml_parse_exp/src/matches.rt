@@ -16,7 +16,7 @@ use sml_parse_pat::{begins_at as begins_pat, pat};
 use sml_scan::{behind, is_next};
 use sml_scope::Scope;
 use std::alloc::Global;
-use tl_text::List;
+use tl_text::{Boxed, List};
 
 const BAR: u32 = 52;
 
@@ -24,7 +24,7 @@ const DARROW: u32 = 54;
 
 impl<
     'a,
-    E: Fn(Global, u32, Level, &mut Scope, &'a [Token]) -> Read<'a, Tall<Exp>>,
+    E: Fn(Global, u32, Level, &mut Scope, &'a [Token]) -> Read<'a, Tall<Boxed<Exp>>>,
     D: Fn(Global, u32, &mut Scope, &'a [Token]) -> Read<'a, (Dec, u32)>,
 > Inside<E, D> {
     /// `p => e`, where what stands inside has this room.

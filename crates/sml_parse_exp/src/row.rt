@@ -18,15 +18,20 @@ use sml_parse_bind::operator;
 use sml_scan::fixity_of;
 use sml_scope::Scope;
 use std::alloc::Global;
-use tl_text::List;
+use tl_text::{Boxed, List};
 
 impl<
     'a,
-    E: Fn(Global, u32, Level, &mut Scope, &'a [Token]) -> Read<'a, Tall<Exp>>,
+    E: Fn(Global, u32, Level, &mut Scope, &'a [Token]) -> Read<'a, Tall<Boxed<Exp>>>,
     D: Fn(Global, u32, &mut Scope, &'a [Token]) -> Read<'a, (Dec, u32)>,
 > Inside<E, D> {
     /// `e f g`: one atomic expression or more, each of at most this height.
-    fn operand(&self, room: u32, scope: &mut Scope, tokens: &'a [Token]) -> Read<'a, Tall<Exp>>
+    fn operand(
+        &self,
+        room: u32,
+        scope: &mut Scope,
+        tokens: &'a [Token],
+    ) -> Read<'a, Tall<Boxed<Exp>>>
         requires nests { Nests self.now.most (E.pre self.now.exp) (E.post self.now.exp) (D.pre self.now.dec) (D.post self.now.dec) }
         requires low { room ≤ self.now.most }
         ensures gives { Gives (λ x. (trees.seen x.0, x.1.now)) result (levels.operand scope.old room tokens.now) }
@@ -43,7 +48,7 @@ impl<
             found.push(other.0)?;
             rest = after;
         }
-        let tree = applied(place, found, height)?;
+        let tree = applied(self.alloc, place, found, height)?;
         Ok((tree, rest))
     }
 
@@ -52,10 +57,10 @@ impl<
         &self,
         room: u32,
         floor: Floor,
-        left: &Tall<Exp>,
+        left: &Tall<Boxed<Exp>>,
         scope: &mut Scope,
         tokens: &'a [Token],
-    ) -> Read<'a, (Ident, Tall<Exp>)>
+    ) -> Read<'a, (Ident, Tall<Boxed<Exp>>)>
         requires nests { Nests self.now.most (E.pre self.now.exp) (E.post self.now.exp) (D.pre self.now.dec) (D.post self.now.dec) }
         requires low { room ≤ self.now.most }
         requires comes { head_is (levels.taken (fixed scope.old) floor) (first tokens.now) ≡ true }
@@ -80,7 +85,7 @@ impl<
         floor: Floor,
         scope: &mut Scope,
         tokens: &'a [Token],
-    ) -> Read<'a, Tall<Exp>>
+    ) -> Read<'a, Tall<Boxed<Exp>>>
         requires nests { Nests self.now.most (E.pre self.now.exp) (E.post self.now.exp) (D.pre self.now.dec) (D.post self.now.dec) }
         requires low { room ≤ self.now.most }
         ensures gives { Gives (λ x. (trees.seen x.0, x.1.now)) result (levels.row scope.old room floor tokens.now) }

@@ -15,7 +15,7 @@ use sml_parse_ty::ty;
 use sml_scan::{behind, is_next};
 use sml_scope::Scope;
 use std::alloc::Global;
-use tl_text::List;
+use tl_text::{Boxed, List};
 
 const ANDALSO: u32 = 1;
 
@@ -36,11 +36,16 @@ fn annotation(alloc: Global, room: u32, tokens: &[Token]) -> Read<'_, (Ty, u32)>
 
 impl<
     'a,
-    E: Fn(Global, u32, Level, &mut Scope, &'a [Token]) -> Read<'a, Tall<Exp>>,
+    E: Fn(Global, u32, Level, &mut Scope, &'a [Token]) -> Read<'a, Tall<Boxed<Exp>>>,
     D: Fn(Global, u32, &mut Scope, &'a [Token]) -> Read<'a, (Dec, u32)>,
 > Inside<E, D> {
     /// `e : t : u`
-    pub fn typed(&self, room: u32, scope: &mut Scope, tokens: &'a [Token]) -> Read<'a, Tall<Exp>>
+    pub fn typed(
+        &self,
+        room: u32,
+        scope: &mut Scope,
+        tokens: &'a [Token],
+    ) -> Read<'a, Tall<Boxed<Exp>>>
         requires nests { Nests self.now.most (E.pre self.now.exp) (E.post self.now.exp) (D.pre self.now.dec) (D.post self.now.dec) }
         requires low { room ≤ self.now.most }
         ensures gives { Gives (λ x. (trees.seen x.0, x.1.now)) result (levels.typed scope.old room tokens.now) }
@@ -60,7 +65,12 @@ impl<
     }
 
     /// `andalso e`
-    fn and_suffix(&self, room: u32, scope: &mut Scope, tokens: &'a [Token]) -> Read<'a, Tall<Exp>>
+    fn and_suffix(
+        &self,
+        room: u32,
+        scope: &mut Scope,
+        tokens: &'a [Token],
+    ) -> Read<'a, Tall<Boxed<Exp>>>
         requires nests { Nests self.now.most (E.pre self.now.exp) (E.post self.now.exp) (D.pre self.now.dec) (D.post self.now.dec) }
         requires low { room ≤ self.now.most }
         ensures gives { Gives (λ x. (trees.seen x.0, x.1.now)) result (levels.and_suffix scope.old room tokens.now) }
@@ -71,7 +81,12 @@ impl<
     }
 
     /// `e andalso f andalso g`
-    pub fn and_also(&self, room: u32, scope: &mut Scope, tokens: &'a [Token]) -> Read<'a, Tall<Exp>>
+    pub fn and_also(
+        &self,
+        room: u32,
+        scope: &mut Scope,
+        tokens: &'a [Token],
+    ) -> Read<'a, Tall<Boxed<Exp>>>
         requires nests { Nests self.now.most (E.pre self.now.exp) (E.post self.now.exp) (D.pre self.now.dec) (D.post self.now.dec) }
         requires low { room ≤ self.now.most }
         ensures gives { Gives (λ x. (trees.seen x.0, x.1.now)) result (levels.and_also scope.old room tokens.now) }
@@ -94,7 +109,12 @@ impl<
     }
 
     /// `orelse e`
-    fn or_suffix(&self, room: u32, scope: &mut Scope, tokens: &'a [Token]) -> Read<'a, Tall<Exp>>
+    fn or_suffix(
+        &self,
+        room: u32,
+        scope: &mut Scope,
+        tokens: &'a [Token],
+    ) -> Read<'a, Tall<Boxed<Exp>>>
         requires nests { Nests self.now.most (E.pre self.now.exp) (E.post self.now.exp) (D.pre self.now.dec) (D.post self.now.dec) }
         requires low { room ≤ self.now.most }
         ensures gives { Gives (λ x. (trees.seen x.0, x.1.now)) result (levels.or_suffix scope.old room tokens.now) }
@@ -105,7 +125,12 @@ impl<
     }
 
     /// `e orelse f orelse g`
-    fn or_else(&self, room: u32, scope: &mut Scope, tokens: &'a [Token]) -> Read<'a, Tall<Exp>>
+    fn or_else(
+        &self,
+        room: u32,
+        scope: &mut Scope,
+        tokens: &'a [Token],
+    ) -> Read<'a, Tall<Boxed<Exp>>>
         requires nests { Nests self.now.most (E.pre self.now.exp) (E.post self.now.exp) (D.pre self.now.dec) (D.post self.now.dec) }
         requires low { room ≤ self.now.most }
         ensures gives { Gives (λ x. (trees.seen x.0, x.1.now)) result (levels.or_else scope.old room tokens.now) }
@@ -144,7 +169,12 @@ impl<
     }
 
     /// `e handle p => f | q => g`
-    pub fn handled(&self, room: u32, scope: &mut Scope, tokens: &'a [Token]) -> Read<'a, Tall<Exp>>
+    pub fn handled(
+        &self,
+        room: u32,
+        scope: &mut Scope,
+        tokens: &'a [Token],
+    ) -> Read<'a, Tall<Boxed<Exp>>>
         requires nests { Nests self.now.most (E.pre self.now.exp) (E.post self.now.exp) (D.pre self.now.dec) (D.post self.now.dec) }
         requires low { room ≤ self.now.most }
         ensures gives { Gives (λ x. (trees.seen x.0, x.1.now)) result (levels.handled scope.old room tokens.now) }

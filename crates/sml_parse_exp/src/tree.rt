@@ -62,83 +62,74 @@ fn exp_place(exp: &Exp) -> Place
 }
 
 /// How the operator at the top binds.
-pub fn top_fixity(fix: &Fixities, exp: &Exp) -> Option<Fixity>
+pub fn top_fixity(fix: &Fixities, exp: &Boxed<Exp>) -> Option<Fixity>
     ensures { result ≡ trees.top_fixity (settings fix.now) exp.now }
 {
-    match exp {
+    match exp.get() {
         Exp::Infix(_, _, op, _) => Some(fixity_of(fix, &op.1)),
         _ => None,
     }
 }
 
-fn pair(alloc: Global, left: Exp, right: Exp) -> Result<(Boxed<Exp>, Boxed<Exp>), NoMemory>
-    ensures { IfOk result (λ x. x ≡ (left, right)) }
-{
-    let left = Boxed::new(alloc, left)?;
-    let right = Boxed::new(alloc, right)?;
-    Ok((left, right))
-}
-
 /// `(e)`
-pub fn paren(alloc: Global, place: Place, inner: Tall<Exp>) -> Result<(AtExp, u32), NoMemory>
+pub fn paren(place: Place, inner: Tall<Boxed<Exp>>) -> Result<(AtExp, u32), NoMemory>
     ensures { IfOk result (λ x. x ≡ grammar.paren_of (place, grammar.Inside.Parts (trees.seen inner, grammar.Behind.Closed))) }
 {
     let height = above(inner.height, 0)?;
-    let inner = Boxed::new(alloc, inner.tree)?;
-    Ok((AtExp::Paren(place, inner), height))
+    Ok((AtExp::Paren(place, inner.tree), height))
 }
 
 /// `(e, f)`, where the expressions behind the first have at most this height.
 pub fn tuple(
-    alloc: Global,
     place: Place,
-    first: Tall<Exp>,
+    first: Tall<Boxed<Exp>>,
     others: (List<Exp>, u32),
 ) -> Result<(AtExp, u32), NoMemory>
     ensures { IfOk result (λ x. x ≡ (at.Tuple place first.tree others.0, max first.height others.1 + 1)) }
 {
     let height = above(first.height, others.1)?;
-    let first = Boxed::new(alloc, first.tree)?;
-    Ok((AtExp::Tuple(place, first, others.0), height))
+    Ok((AtExp::Tuple(place, first.tree, others.0), height))
 }
 
 /// `(e; f)`, where the expressions behind the first have at most this height.
 pub fn sequence(
-    alloc: Global,
     place: Place,
-    first: Tall<Exp>,
+    first: Tall<Boxed<Exp>>,
     others: (List<Exp>, u32),
 ) -> Result<(AtExp, u32), NoMemory>
     ensures { IfOk result (λ x. x ≡ (at.Seq place first.tree others.0, max first.height others.1 + 1)) }
 {
     let height = above(first.height, others.1)?;
-    let first = Boxed::new(alloc, first.tree)?;
-    Ok((AtExp::Seq(place, first, others.0), height))
+    Ok((AtExp::Seq(place, first.tree, others.0), height))
 }
 
 /// What stands in parentheses, from its first expression and what is behind it.
 pub fn closed(
-    alloc: Global,
     place: Place,
-    first: Tall<Exp>,
+    first: Tall<Boxed<Exp>>,
     others: Behind,
 ) -> Result<(AtExp, u32), NoMemory>
     ensures { IfOk result (λ x. x ≡ trees.closed place (trees.seen first) others) }
 {
     match others {
-        Behind::Closed => paren(alloc, place, first),
-        Behind::Commas(others, height) => tuple(alloc, place, first, (others, height)),
-        Behind::Semis(others, height) => sequence(alloc, place, first, (others, height)),
+        Behind::Closed => paren(place, first),
+        Behind::Commas(others, height) => tuple(place, first, (others, height)),
+        Behind::Semis(others, height) => sequence(place, first, (others, height)),
     }
 }
 
 /// `e f`, where the atoms, which begin at this place, have at most this height.
-pub fn applied(place: Place, atoms: List<AtExp>, height: u32) -> Result<Tall<Exp>, NoMemory>
+pub fn applied(
+    alloc: Global,
+    place: Place,
+    atoms: List<AtExp>,
+    height: u32,
+) -> Result<Tall<Boxed<Exp>>, NoMemory>
     ensures { IfOk result (λ x. trees.seen x ≡ trees.applied place atoms height) }
 {
     let height = above(height, 0)?;
     Ok(Tall {
-        tree: Exp::Apply(place, atoms),
+        tree: Boxed::new(alloc, Exp::Apply(place, atoms))?,
         ends: Ends {
             typed: false,
             reach: Reach::Near,
@@ -150,17 +141,16 @@ pub fn applied(place: Place, atoms: List<AtExp>, height: u32) -> Result<Tall<Exp
 /// `e + f`
 pub fn infixed(
     alloc: Global,
-    left: Tall<Exp>,
+    left: Tall<Boxed<Exp>>,
     op: Ident,
-    right: Tall<Exp>,
-) -> Result<Tall<Exp>, NoMemory>
+    right: Tall<Boxed<Exp>>,
+) -> Result<Tall<Boxed<Exp>>, NoMemory>
     ensures { IfOk result (λ x. trees.seen x ≡ grammar.infix_of (trees.seen left) op (trees.seen right)) }
 {
     let height = above(left.height, right.height)?;
-    let place = exp_place(&left.tree);
-    let (left, right) = pair(alloc, left.tree, right.tree)?;
+    let place = exp_place(left.tree.get());
     Ok(Tall {
-        tree: Exp::Infix(place, left, op, right),
+        tree: Boxed::new(alloc, Exp::Infix(place, left.tree, op, right.tree))?,
         ends: Ends {
             typed: false,
             reach: Reach::Near,
@@ -170,14 +160,17 @@ pub fn infixed(
 }
 
 /// `e : t`
-pub fn typed(alloc: Global, exp: Tall<Exp>, ty: (Ty, u32)) -> Result<Tall<Exp>, NoMemory>
+pub fn typed(
+    alloc: Global,
+    exp: Tall<Boxed<Exp>>,
+    ty: (Ty, u32),
+) -> Result<Tall<Boxed<Exp>>, NoMemory>
     ensures { IfOk result (λ x. trees.seen x ≡ grammar.typed_of (trees.seen exp) ty) }
 {
     let height = above(exp.height, ty.1)?;
-    let place = exp_place(&exp.tree);
-    let inner = Boxed::new(alloc, exp.tree)?;
+    let place = exp_place(exp.tree.get());
     Ok(Tall {
-        tree: Exp::Typed(place, inner, ty.0),
+        tree: Boxed::new(alloc, Exp::Typed(place, exp.tree, ty.0))?,
         ends: Ends {
             typed: true,
             reach: Reach::Near,
@@ -187,30 +180,36 @@ pub fn typed(alloc: Global, exp: Tall<Exp>, ty: (Ty, u32)) -> Result<Tall<Exp>, 
 }
 
 /// `e andalso f`
-pub fn and_also(alloc: Global, left: Tall<Exp>, right: Tall<Exp>) -> Result<Tall<Exp>, NoMemory>
+pub fn and_also(
+    alloc: Global,
+    left: Tall<Boxed<Exp>>,
+    right: Tall<Boxed<Exp>>,
+) -> Result<Tall<Boxed<Exp>>, NoMemory>
     ensures { IfOk result (λ x. trees.seen x ≡ grammar.and_of (trees.seen left) (trees.seen right)) }
 {
     let height = above(left.height, right.height)?;
-    let place = exp_place(&left.tree);
+    let place = exp_place(left.tree.get());
     let ends = right.ends;
-    let (left, right) = pair(alloc, left.tree, right.tree)?;
     Ok(Tall {
-        tree: Exp::AndAlso(place, left, right),
+        tree: Boxed::new(alloc, Exp::AndAlso(place, left.tree, right.tree))?,
         ends,
         height,
     })
 }
 
 /// `e orelse f`
-pub fn or_else(alloc: Global, left: Tall<Exp>, right: Tall<Exp>) -> Result<Tall<Exp>, NoMemory>
+pub fn or_else(
+    alloc: Global,
+    left: Tall<Boxed<Exp>>,
+    right: Tall<Boxed<Exp>>,
+) -> Result<Tall<Boxed<Exp>>, NoMemory>
     ensures { IfOk result (λ x. trees.seen x ≡ grammar.or_of (trees.seen left) (trees.seen right)) }
 {
     let height = above(left.height, right.height)?;
-    let place = exp_place(&left.tree);
+    let place = exp_place(left.tree.get());
     let ends = right.ends;
-    let (left, right) = pair(alloc, left.tree, right.tree)?;
     Ok(Tall {
-        tree: Exp::OrElse(place, left, right),
+        tree: Boxed::new(alloc, Exp::OrElse(place, left.tree, right.tree))?,
         ends,
         height,
     })
@@ -219,62 +218,50 @@ pub fn or_else(alloc: Global, left: Tall<Exp>, right: Tall<Exp>) -> Result<Tall<
 /// `e handle p => f | q => g`
 pub fn handled(
     alloc: Global,
-    exp: Tall<Exp>,
+    exp: Tall<Boxed<Exp>>,
     rules: Tall<List<Rule>>,
-) -> Result<Tall<Exp>, NoMemory>
+) -> Result<Tall<Boxed<Exp>>, NoMemory>
     ensures { IfOk result (λ x. trees.seen x ≡ trees.handled (trees.seen exp) (trees.seen rules)) }
 {
     let height = above(exp.height, rules.height)?;
-    let place = exp_place(&exp.tree);
-    let inner = Boxed::new(alloc, exp.tree)?;
+    let place = exp_place(exp.tree.get());
     Ok(Tall {
-        tree: Exp::Handle(place, inner, rules.tree),
+        tree: Boxed::new(alloc, Exp::Handle(place, exp.tree, rules.tree))?,
         ends: in_match(rules.ends),
         height,
     })
 }
 
 /// `raise e`
-pub fn raised(alloc: Global, place: Place, exp: Tall<Exp>) -> Result<Tall<Exp>, NoMemory>
+pub fn raised(
+    alloc: Global,
+    place: Place,
+    exp: Tall<Boxed<Exp>>,
+) -> Result<Tall<Boxed<Exp>>, NoMemory>
     ensures { IfOk result (λ x. trees.seen x ≡ grammar.raise_of (place, trees.seen exp)) }
 {
     let height = above(exp.height, 0)?;
     let ends = farther(exp.ends);
-    let inner = Boxed::new(alloc, exp.tree)?;
     Ok(Tall {
-        tree: Exp::Raise(place, inner),
+        tree: Boxed::new(alloc, Exp::Raise(place, exp.tree))?,
         ends,
         height,
     })
-}
-
-fn conditional(
-    alloc: Global,
-    place: Place,
-    test: Exp,
-    first: Exp,
-    other: Exp,
-) -> Result<Exp, NoMemory>
-    ensures { IfOk result (λ x. x ≡ exps.If place test first other) }
-{
-    let (first, other) = pair(alloc, first, other)?;
-    let test = Boxed::new(alloc, test)?;
-    Ok(Exp::If(place, test, first, other))
 }
 
 /// `if e then f else g`
 pub fn chosen(
     alloc: Global,
     place: Place,
-    test: Tall<Exp>,
-    first: Tall<Exp>,
-    other: Tall<Exp>,
-) -> Result<Tall<Exp>, NoMemory>
+    test: Tall<Boxed<Exp>>,
+    first: Tall<Boxed<Exp>>,
+    other: Tall<Boxed<Exp>>,
+) -> Result<Tall<Boxed<Exp>>, NoMemory>
     ensures { IfOk result (λ x. trees.seen x ≡ grammar.if_of (place, (trees.seen test, (trees.seen first, trees.seen other)))) }
 {
     let height = above(test.height, higher(first.height, other.height))?;
     let ends = farther(other.ends);
-    let tree = conditional(alloc, place, test.tree, first.tree, other.tree)?;
+    let tree = Boxed::new(alloc, Exp::If(place, test.tree, first.tree, other.tree))?;
     Ok(Tall { tree, ends, height })
 }
 
@@ -282,16 +269,15 @@ pub fn chosen(
 pub fn repeated(
     alloc: Global,
     place: Place,
-    test: Tall<Exp>,
-    body: Tall<Exp>,
-) -> Result<Tall<Exp>, NoMemory>
+    test: Tall<Boxed<Exp>>,
+    body: Tall<Boxed<Exp>>,
+) -> Result<Tall<Boxed<Exp>>, NoMemory>
     ensures { IfOk result (λ x. trees.seen x ≡ grammar.while_of (place, (trees.seen test, trees.seen body))) }
 {
     let height = above(test.height, body.height)?;
     let ends = farther(body.ends);
-    let (test, body) = pair(alloc, test.tree, body.tree)?;
     Ok(Tall {
-        tree: Exp::While(place, test, body),
+        tree: Boxed::new(alloc, Exp::While(place, test.tree, body.tree))?,
         ends,
         height,
     })
@@ -301,27 +287,30 @@ pub fn repeated(
 pub fn cases(
     alloc: Global,
     place: Place,
-    exp: Tall<Exp>,
+    exp: Tall<Boxed<Exp>>,
     rules: Tall<List<Rule>>,
-) -> Result<Tall<Exp>, NoMemory>
+) -> Result<Tall<Boxed<Exp>>, NoMemory>
     ensures { IfOk result (λ x. trees.seen x ≡ trees.case_node place (trees.seen exp) (trees.seen rules)) }
 {
     let height = above(exp.height, rules.height)?;
-    let inner = Boxed::new(alloc, exp.tree)?;
     Ok(Tall {
-        tree: Exp::Case(place, inner, rules.tree),
+        tree: Boxed::new(alloc, Exp::Case(place, exp.tree, rules.tree))?,
         ends: in_match(rules.ends),
         height,
     })
 }
 
 /// `fn p => e | q => f`
-pub fn function(place: Place, rules: Tall<List<Rule>>) -> Result<Tall<Exp>, NoMemory>
+pub fn function(
+    alloc: Global,
+    place: Place,
+    rules: Tall<List<Rule>>,
+) -> Result<Tall<Boxed<Exp>>, NoMemory>
     ensures { IfOk result (λ x. trees.seen x ≡ trees.fn_node place (trees.seen rules)) }
 {
     let height = above(rules.height, 0)?;
     Ok(Tall {
-        tree: Exp::Fn(place, rules.tree),
+        tree: Boxed::new(alloc, Exp::Fn(place, rules.tree))?,
         ends: in_match(rules.ends),
         height,
     })
@@ -341,13 +330,13 @@ fn pat_place(pat: &Pat) -> Place
 }
 
 /// `p => e`
-pub fn arm(pat: (Pat, u32), exp: Tall<Exp>) -> Result<Tall<Rule>, NoMemory>
+pub fn arm(pat: (Pat, u32), exp: Tall<Boxed<Exp>>) -> Result<Tall<Rule>, NoMemory>
     ensures { IfOk result (λ x. trees.seen x ≡ grammar.arm_of (pat, trees.seen exp)) }
 {
     let height = above(pat.1, exp.height)?;
     let place = pat_place(&pat.0);
     Ok(Tall {
-        tree: Rule::Arm(place, pat.0, exp.tree),
+        tree: Rule::Arm(place, pat.0, exp.tree.into_inner()),
         ends: exp.ends,
         height,
     })

@@ -5,10 +5,10 @@ use Rattle.readers.specs.Given.{Fails}
 use Rattle.readers.specs.Reader.{first, Answer, ◌>>=◌, head_is, steps}
 use Rattle.readers.proofs.StepLoop.{ended}
 use Rattle.sml_lex.specs.declared.token.Token.{Token}
-use Rattle.sml_grammar_exp.specs.Decs.{Changes}
 use Rattle.sml_grammar_mod.specs.Strs.{St}
-use Rattle.sml_grammar_mod.specs.ReadStrs.{Grow, Growing, all_grown, base_read, begins_grow, grow_read, grown_by, grown_str, str_read}
+use Rattle.sml_grammar_mod.specs.ReadStrs.{Grow, Growing, all_grown, begins_grow, grow_read, grown_by, grown_str}
 use Rattle.sml_parse_sig.proofs.Tracked.{run_turn, run_end, run_fails}
+use Rattle.sml_parse_mod.specs.Levels as levels
 use Rattle.sml_parse_mod.proofs.Steps.{grow_less}
 
 abbrev pub finished : Answer Token Growing → Answer Token St
@@ -21,10 +21,10 @@ module _ (h : ℕ) where
   abbrev pub growth : Growing → List Token → Answer Token St
   growth g s = finished (ended grown_by g (steps begins_grow grown_by (grow_read h) g s))
 
-  pub growth_start : (cs : Changes) (s : List Token) (z : St × List Token) → base_read h false cs s ≡ Ok z → str_read h false cs s ≡ growth (Growing.Whole z.0) z.1
-  growth_start cs s z e = rw e (go (steps begins_grow grown_by (grow_read h) (Growing.Whole z.0) z.1))
+  pub growth_start : (e : St) (s : List Token) → levels.all_grown h e s ≡ growth (Growing.Whole e) s
+  growth_start e s = go (steps begins_grow grown_by (grow_read h) (Growing.Whole e) s)
     where
-      go : (r : Answer Token (List Grow)) → ((r >>= λ y. paired (Growing.Whole z.0) y.0 y.1) >>= λ x. Ok (all_grown x.0, x.1)) ≡ finished (ended grown_by (Growing.Whole z.0) r)
+      go : (r : Answer Token (List Grow)) → ((r >>= λ y. paired (Growing.Whole e) y.0 y.1) >>= λ x. Ok (all_grown x.0, x.1)) ≡ finished (ended grown_by (Growing.Whole e) r)
       go (Ok y) = refl
       go (Err d) = refl
 

@@ -1,15 +1,21 @@
 -- Rows of bindings, where the code has the directives in force at each turn, and what grows as it holds it.
 use Rattle.std.proofs.Common.{◌≡◌, ℕ, ◌<◌, true, false, List, length, Option, Ok, subst, sym, ap, ◌∙◌}
+use denote.Ref.{Bor}
 use Rattle.readers.specs.declared.fault.ReadError.{ReadError}
-use Rattle.readers.specs.Given.{Fails}
+use Rattle.readers.specs.Given.{Fails, Gives}
 use Rattle.readers.specs.Reader.{first, head_is, Answer, Reader, mapped}
 use Rattle.readers.proofs.RowLoop.{Shortens}
 use Rattle.sml_lex.specs.declared.token.Token.{Token}
+use Rattle.sml_ast.specs.declared.program.StrBind.{StrBind}
+use Rattle.sml_grammar.specs.Types.{Ident}
 use Rattle.sml_grammar_exp.specs.Decs.{Changes}
-use Rattle.sml_grammar_mod.specs.Strs.{St}
+use Rattle.sml_grammar_mod.specs.Strs.{Ax, St, strbind_of}
 use Rattle.sml_grammar_mod.specs.ReadStrs.{Bind, begins_grow, grown_str, turn_read}
 use Rattle.sml_parse_mod.specs.declared.growing.Growing.{Growing}
-use Rattle.sml_parse_mod.specs.Trees.{added, bind, step, stepped, with_done}
+use Rattle.sml_parse_mod.specs.Levels as levels
+use Rattle.sml_parse_mod.specs.Nested.{Read}
+use Rattle.sml_parse_mod.specs.Trees.{added, bind, step, stepped, strbinds, with_done}
+use Rattle.sml_parse_mod.proofs.Steps.{binding_less}
 use Rattle.sml_parse_mod.proofs.Turns as rows
 
 module _ {F S : Type 0} (binding : Changes → Reader Token (Bind F)) (h : ℕ) (make : F × St → S × ℕ) (less : (k : Changes) → Shortens (binding k)) (cs : Changes) where
@@ -42,3 +48,11 @@ module _ {F S : Type 0} (binding : Changes → Reader Token (Bind F)) (h : ℕ) 
       loop_end i d e k j =
           rows.row_end (binding cs) h make (less cs) (x, y) s all inv i d e
           ∙ ap (λ (l : List S × ℕ). Ok (l, s)) (sym j)
+
+-- what follows the first binding of a structure, where the same directives are in force as before it
+module _ (cs ms : Changes) (m : ms ≡ cs) (h : ℕ) (s rest : List Token) (x : Bind (Ident × Option Ax)) (e : levels.bind cs h s ≡ Ok (x, rest)) where
+  pub binds_give : (r : Read (List StrBind × ℕ)) → Gives (λ y. (y.0, y.1.now)) r (mapped strbinds (levels.binds_behind ms h x) rest) → Gives (λ y. (y.0, y.1.now)) r (mapped strbinds (levels.binds cs h) s)
+  binds_give r g =
+      let P : Answer Token (List StrBind × ℕ) → Type 0 = λ a. Gives (λ (y : (List StrBind × ℕ) × Bor (List Token)). (y.0, y.1.now)) r a in
+      let Q : Changes → Type 0 = λ k. P (mapped strbinds (levels.binds_behind k h x) rest) in
+      subst P (sym (rows.row_first (levels.bind cs h) h strbind_of (binding_less cs h) s (x, rest) e)) (subst Q m g)

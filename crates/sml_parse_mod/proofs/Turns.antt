@@ -4,7 +4,7 @@ use Rattle.readers.specs.declared.fault.ReadError.{ReadError}
 use Rattle.readers.specs.declared.fault.ReadError.TheVariants as errors
 use Rattle.readers.specs.Given.{Fails}
 use Rattle.readers.specs.Infix.{ups}
-use Rattle.readers.specs.Reader.{first, Answer, Reader, ◌>>=◌, head_is, mapped, one, skip, steps}
+use Rattle.readers.specs.Reader.{first, Answer, Reader, ◌>>=◌, bound, head_is, mapped, one, skip, steps}
 use Rattle.readers.specs.Forms.{else_if, highest, height_of, nothing}
 use Rattle.readers.proofs.Choice.{remade}
 use Rattle.readers.proofs.RowLoop.{Shortens}
@@ -177,17 +177,23 @@ module _ {F : Type 0} (bind : Reader Token (Bind F)) (h : ℕ) where
     abbrev paired : Bind F → List (Turn F) → List Token → Answer Token (Bind F × List (Turn F))
     paired x us s = Ok ((x, us), s)
 
-    pub row_start : (s : List Token) (z : Bind F × List Token) → bind s ≡ Ok z → mapped (summed first_of height_of) (mapped (map make) (row_level bind h)) s ≡ row (([], 0), z.0) z.1
-    row_start s z e =
-        rw e (go (steps begins_grow turned (turn_read bind h) z.0 z.1))
-        ∙ ap (λ (r : Answer Token (List (Turn F))). finished (ended keeping (([], 0), z.0) r)) (sym (tracked latest begins_grow turned keeping (turn_read bind h) same (([], 0), z.0) z.1))
+    pub row_begins : (x : Bind F) (s : List Token) → mapped (summed first_of height_of) (mapped (map make) (mapped gathered (bound (nothing x) (steps begins_grow turned (turn_read bind h))))) s ≡ row (([], 0), x) s
+    row_begins x s =
+        go (steps begins_grow turned (turn_read bind h) x s)
+        ∙ ap (λ (r : Answer Token (List (Turn F))). finished (ended keeping (([], 0), x) r)) (sym (tracked latest begins_grow turned keeping (turn_read bind h) same (([], 0), x) s))
       where
-        go : (r : Answer Token (List (Turn F))) → remade (summed first_of height_of) (remade (map make) (remade gathered (r >>= λ y. paired z.0 y.0 y.1))) ≡ finished (ended keeping (([], 0), z.0) r)
+        go : (r : Answer Token (List (Turn F))) → remade (summed first_of height_of) (remade (map make) (remade gathered (r >>= λ y. paired x y.0 y.1))) ≡ finished (ended keeping (([], 0), x) r)
         go (Ok y) =
-            let ms : List (S × ℕ) = all_made z.0 y.0 in
+            let ms : List (S × ℕ) = all_made x y.0 in
             let n : highest height_of ms ≡ max 0 (highest height_of ms) = omega arith in
-            ap (λ (k : ℕ). Ok ((map first_of ms, k), y.1)) n ∙ ap (λ (k : List S × ℕ). Ok (k, y.1)) (sym (all_kept (([], 0), z.0) y.0))
+            ap (λ (k : ℕ). Ok ((map first_of ms, k), y.1)) n ∙ ap (λ (k : List S × ℕ). Ok (k, y.1)) (sym (all_kept (([], 0), x) y.0))
         go (Err d) = refl
+
+    pub row_start : (s : List Token) (z : Bind F × List Token) → bind s ≡ Ok z → mapped (summed first_of height_of) (mapped (map make) (row_level bind h)) s ≡ row (([], 0), z.0) z.1
+    row_start s z e = rw e (row_begins z.0 z.1)
+
+    pub row_first : (s : List Token) (z : Bind F × List Token) → bind s ≡ Ok z → mapped (summed first_of height_of) (mapped (map make) (row_level bind h)) s ≡ mapped (summed first_of height_of) (mapped (map make) (mapped gathered (bound (nothing z.0) (steps begins_grow turned (turn_read bind h))))) z.1
+    row_first s z e = row_start s z e ∙ sym (row_begins z.0 z.1)
 
     pub row_first_fails : (f : ReadError Token) (s : List Token) → Fails f (bind s) → Fails f (mapped (summed first_of height_of) (mapped (map make) (row_level bind h)) s)
     row_first_fails errors.NoMemory s e = tt

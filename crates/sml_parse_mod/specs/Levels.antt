@@ -1,8 +1,8 @@
 -- The readers of the grammar part by part, by the directives in force and the height that stands inside: what the functions of
 -- the code give.
-use Rattle.std.specs.Prelude.{ℕ, Bool, true, false, List, Option, Some, map, Ok}
+use Rattle.std.specs.Prelude.{ℕ, Bool, true, false, List, Option, map, Ok}
 use Rattle.tl_text.specs.declared.place.Place.{Place}
-use Rattle.readers.specs.Reader.{Answer, Reader, ◌>>=◌, both, bound, mapped, token_by, skip, close, one, else_by, row, steps, guard, no_more}
+use Rattle.readers.specs.Reader.{Reader, ◌>>=◌, both, bound, mapped, token_by, skip, close, one, else_by, row, steps, guard, no_more}
 use Rattle.readers.specs.Forms.{ended, else_if, growth, nothing, optional}
 use Rattle.sml_lex.specs.declared.token.Token.{Token}
 use Rattle.sml_ast.specs.declared.program.Program.{Program}
@@ -42,6 +42,11 @@ seal_level h = else_if (is COLON) (mapped (read.marked false) (both (token_by (t
 -- the same behind a structure expression
 abbrev pub seals : ℕ → Growing → Reader Token Seal
 seals h g = guard (growth begins_ascribe true (read.above g) h) (read.seal_read h)
+
+-- ---- a structure expression that grows by ascriptions, as far as they go
+
+abbrev pub all_grown : ℕ → St → Reader Token St
+all_grown h e = mapped read.all_grown (bound (nothing (Growing.Whole e)) (steps read.begins_grow read.grown_by (read.grow_read h)))
 
 -- ---- what follows a binding
 
@@ -114,6 +119,10 @@ bind cs h = bind_read (front h) (base_read h false cs)
 
 abbrev pub binds : Changes → ℕ → Reader Token (List Sb)
 binds cs h = mapped (map strbind_of) (row_level (bind cs h) h)
+
+-- the same behind the first binding
+abbrev pub binds_behind : Changes → ℕ → Bind (Ident × Option Ax) → Reader Token (List Sb)
+binds_behind cs h x = mapped (map strbind_of) (mapped read.gathered (bound (nothing x) (steps read.begins_grow read.turned (read.turn_read (bind cs h) h))))
 
 -- ---- declarations
 

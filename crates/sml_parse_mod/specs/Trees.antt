@@ -6,7 +6,7 @@ use Rattle.sml_ast.specs.declared.exp.AtExp.TheOpen.{Dec-F}
 use Rattle.sml_ast.specs.declared.exp.Dec.{Dec, roll-Dec}
 use Rattle.sml_ast.specs.declared.program.StrBind.TheOpen.{StrDec-F}
 use Rattle.sml_ast.specs.declared.program.StrBind.{StrBind}
-use Rattle.sml_ast.specs.declared.program.StrDec.{StrDec, out-StrDec, roll-StrDec}
+use Rattle.sml_ast.specs.declared.program.StrDec.{StrDec, roll-StrDec}
 use Rattle.sml_ast.specs.declared.program.StrExp.{StrExp}
 use Rattle.sml_ast.specs.declared.program.SigBind.{SigBind}
 use Rattle.sml_ast.specs.declared.program.FunBind.{FunBind}
@@ -17,7 +17,7 @@ use Rattle.sml_scan.specs.Rows.{summed}
 use Rattle.sml_grammar.specs.Types.{Ident, trees}
 use Rattle.sml_grammar.specs.Pats.{opt_height, opt_tree}
 use Rattle.sml_grammar_exp.specs.Decs.{Changes, all_of}
-use Rattle.sml_grammar_sig.specs.Sigs.{Sx, Ss}
+use Rattle.sml_grammar_sig.specs.Sigs.{Ss}
 use Rattle.sml_grammar_mod.specs.Programs as programs
 use Rattle.sml_grammar_mod.specs.Programs.{Tp, Item}
 use Rattle.sml_grammar_mod.specs.Strs as grammar

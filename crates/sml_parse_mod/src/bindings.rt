@@ -12,7 +12,7 @@ use crate::ascription::ascription;
 use crate::first::begins_grow;
 use crate::growing::{Growing, grown_bind};
 use crate::inside::{Inside, Read};
-use crate::tree::{added, optional, with_height, with_turn};
+use crate::tree::{added, optional, with_height};
 use crate::turn::{after, turned};
 use readers::{Code, ReadError, refusal};
 use sml_ast::{Ascribe, Ident, StrBind, StrDec, StrExp};
@@ -22,15 +22,19 @@ use sml_parse_sig::{is_strid, strid};
 use sml_scan::behind;
 use sml_scope::Scope;
 use std::alloc::Global;
-use tl_text::{List, NoMemory};
+use tl_text::{Boxed, List, NoMemory};
 
 const EQUALS: u32 = 53;
 
 /// The front of a binding, up to the `=`.
 type Front = (Ident, Option<(Ascribe, u32)>);
 
-/// A binding of a structure as far as it was read: its front, and the structure expression behind it.
-type Bind = (Front, Growing);
+/// A binding of a structure as far as it was read: its front, and the structure expression behind it. It is on the heap, so that a
+/// row inside a row takes little of the stack.
+type Bind = Boxed<(Front, Growing)>;
+
+/// What a turn of a row of bindings gives: the binding where it is done, and the one that is last then.
+type Step = (Option<(Boxed<StrBind>, u32)>, Bind);
 
 /// The binding of this front and this structure expression.
 fn strbind_over(front: Front, body: (StrExp, u32)) -> Result<(StrBind, u32), NoMemory>
@@ -42,12 +46,54 @@ fn strbind_over(front: Front, body: (StrExp, u32)) -> Result<(StrBind, u32), NoM
     with_height(StrBind::Bind(name.0, name, ascription, body.0), height)
 }
 
-/// The binding with all of its structure expression.
-fn strbind(alloc: Global, bind: Bind) -> Result<(StrBind, u32), NoMemory>
+/// The binding with all of its structure expression. A function of its own, so that the stack holds no more than the box.
+#[inline(never)]
+fn strbind(alloc: Global, bind: Bind) -> Result<(Boxed<StrBind>, u32), NoMemory>
     ensures { IfOk result (λ x. x ≡ grammar.strbind_of (bind.0, read.grown_str (trees.growing bind.1))) }
 {
-    let (front, body) = grown_bind(alloc, bind)?;
-    strbind_over(front, body)
+    let (front, body) = grown_bind(alloc, bind.into_inner())?;
+    let (tree, height) = strbind_over(front, body)?;
+    Ok((Boxed::new(alloc, tree)?, height))
+}
+
+/// A row of bindings and the height of its highest, with one more.
+#[inline(never)]
+fn with_last(
+    row: (List<StrBind>, u32),
+    last: (Boxed<StrBind>, u32),
+) -> Result<(List<StrBind>, u32), NoMemory>
+    ensures { IfOk result (λ x. x ≡ trees.added row last) }
+{
+    added(row, (last.0.into_inner(), last.1))
+}
+
+/// A row of bindings behind a turn, which hands on the binding that comes after it.
+#[inline(never)]
+fn with_step(
+    row: (List<StrBind>, u32),
+    turn: Step,
+) -> Result<((List<StrBind>, u32), Bind), NoMemory>
+    ensures { IfOk result (λ x. x ≡ (trees.with_done row turn.0, turn.1)) }
+{
+    let (done, last) = turn;
+    match done {
+        None => Ok((row, last)),
+        Some(done) => Ok((with_last(row, done)?, last)),
+    }
+}
+
+/// Behind this binding: whether it goes on, and the binding then. Where it is done, another one follows.
+#[inline(never)]
+fn turned_bind<'a>(
+    alloc: Global,
+    last: Bind,
+    room: u32,
+    tokens: &'a [Token],
+) -> Read<'a, (bool, Bind)>
+    ensures { Gives (λ x. (trees.judged x.0, x.1.now)) result (mapped (trees.goes_on (trees.bind last)) (levels.turn room (trees.growing last.1)) tokens.now) }
+{
+    let ((goes_on, next), rest) = turned(alloc, last.into_inner(), room, tokens)?;
+    Ok(((goes_on, Boxed::new(alloc, next)?), rest))
 }
 
 impl<
@@ -56,6 +102,7 @@ impl<
     D: Fn(Global, u32, &mut Scope, &'a [Token]) -> Read<'a, (StrDec, u32)>,
 > Inside<B, D> {
     /// `S : G`, before the `=`.
+    #[inline(never)]
     fn front(&self, room: u32, tokens: &'a [Token]) -> Read<'a, Front>
         requires nests { Nests self.now.most (B.pre self.now.base) (B.post self.now.base) (D.pre self.now.dec) (D.post self.now.dec) }
         requires low { room ≤ self.now.most }
@@ -87,17 +134,18 @@ impl<
     {
         let (front, rest) = self.front(room, tokens)?;
         let (found, rest) = self.value(room, scope, rest)?;
-        Ok(((front, found), rest))
+        Ok((Boxed::new(self.alloc, (front, found))?, rest))
     }
 
     /// This binding, which is done, and the next one.
+    #[inline(never)]
     fn follow(
         &self,
         last: Bind,
         room: u32,
         scope: &mut Scope,
         tokens: &'a [Token],
-    ) -> Read<'a, (Option<(StrBind, u32)>, Bind)>
+    ) -> Read<'a, Step>
         requires nests { Nests self.now.most (B.pre self.now.base) (B.post self.now.base) (D.pre self.now.dec) (D.post self.now.dec) }
         requires low { room ≤ self.now.most }
         ensures gives { Gives (λ x. (trees.stepped x.0, x.1.now)) result (mapped (λ y. (Some (grammar.strbind_of (last.0, read.grown_str (trees.growing last.1))), y)) (levels.bind scope.old room) tokens.now) }
@@ -108,23 +156,47 @@ impl<
     }
 
     /// Behind this binding, where it goes on or another one follows: the binding where it is done, and the one that is last then.
-    fn step(
-        &self,
-        last: Bind,
-        room: u32,
-        scope: &mut Scope,
-        tokens: &'a [Token],
-    ) -> Read<'a, (Option<(StrBind, u32)>, Bind)>
+    #[inline(never)]
+    fn step(&self, last: Bind, room: u32, scope: &mut Scope, tokens: &'a [Token]) -> Read<'a, Step>
         requires nests { Nests self.now.most (B.pre self.now.base) (B.post self.now.base) (D.pre self.now.dec) (D.post self.now.dec) }
         requires low { room ≤ self.now.most }
         ensures gives { Gives (λ x. (trees.stepped x.0, x.1.now)) result (mapped (trees.step grammar.strbind_of (trees.bind last)) (read.turn_read (levels.bind scope.old room) room (trees.bind last)) tokens.now) }
         ensures keeps { OnOk result (scope.new ≡ scope.old) }
     {
-        let ((goes_on, next), rest) = turned(self.alloc, last, room, tokens)?;
+        let ((goes_on, next), rest) = turned_bind(self.alloc, last, room, tokens)?;
         if goes_on {
             return Ok(((None, next), rest));
         }
         self.follow(next, room, scope, rest)
+    }
+
+    /// What follows this binding of a structure, and the bindings behind it, with `and` between. A function of its own, so that the
+    /// stack does not hold it while the first binding is read.
+    #[inline(never)]
+    fn binds_behind(
+        &self,
+        first: Bind,
+        room: u32,
+        scope: &mut Scope,
+        tokens: &'a [Token],
+    ) -> Read<'a, (List<StrBind>, u32)>
+        requires nests { Nests self.now.most (B.pre self.now.base) (B.post self.now.base) (D.pre self.now.dec) (D.post self.now.dec) }
+        requires low { room ≤ self.now.most }
+        ensures gives { Gives (λ x. (x.0, x.1.now)) result (mapped trees.strbinds (levels.binds_behind scope.old room (trees.bind first)) tokens.now) }
+        ensures keeps { OnOk result (scope.new ≡ scope.old) }
+    {
+        let mut last = first;
+        let mut rest = tokens;
+        let mut row = (List::new(self.alloc), 0);
+        'turns: while begins_grow(rest) {
+            let (turn, after) = self.step(last, room, scope, rest)?;
+            let (more, next) = with_step(row, turn)?;
+            row = more;
+            last = next;
+            rest = after;
+        }
+        let end = strbind(self.alloc, last)?;
+        Ok((with_last(row, end)?, rest))
     }
 
     /// Bindings of structures with `and` between.
@@ -139,17 +211,8 @@ impl<
         ensures gives { Gives (λ x. (x.0, x.1.now)) result (mapped trees.strbinds (levels.binds scope.old room) tokens.now) }
         ensures keeps { OnOk result (scope.new ≡ scope.old) }
     {
-        let (mut last, mut rest) = self.bind(room, scope, tokens)?;
-        let mut row = (List::new(self.alloc), 0);
-        'turns: while begins_grow(rest) {
-            let (turn, after) = self.step(last, room, scope, rest)?;
-            let (more, next) = with_turn(row, turn)?;
-            row = more;
-            last = next;
-            rest = after;
-        }
-        let end = strbind(self.alloc, last)?;
-        Ok((added(row, end)?, rest))
+        let (first, rest) = self.bind(room, scope, tokens)?;
+        self.binds_behind(first, room, scope, rest)
     }
 
     /// Bindings of structures, where the structure expressions have this room.

@@ -137,6 +137,7 @@ impl<
 
     /// Behind `local`, whose place is given.
     #[tactic(auto, using(crate::proofs::Scopes::front_short))]
+    #[inline(never)]
     fn local(
         &self,
         place: Place,
@@ -159,6 +160,7 @@ impl<
     }
 
     /// Behind `structure`, whose place is given.
+    #[inline(never)]
     fn structs(
         &self,
         place: Place,
@@ -179,6 +181,7 @@ impl<
     }
 
     /// A declaration of the core.
+    #[inline(never)]
     fn core(&self, room: u32, scope: &mut Scope, tokens: &'a [Token]) -> Read<'a, (StrDec, u32)>
         requires nests { Nests self.now.most (B.pre self.now.base) (B.post self.now.base) (D.pre self.now.dec) (D.post self.now.dec) }
         requires low { room ≤ self.now.most }

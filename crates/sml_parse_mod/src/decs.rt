@@ -38,6 +38,7 @@ impl<
     D: Fn(Global, u32, &mut Scope, &'a [Token]) -> Read<'a, (StrDec, u32)>,
 > Inside<B, D> {
     /// A declaration and the semicolons behind it.
+    #[inline(never)]
     fn item(&self, room: u32, scope: &mut Scope, tokens: &'a [Token]) -> Read<'a, (StrDec, u32)>
         requires nests { Nests self.now.most (B.pre self.now.base) (B.post self.now.base) (D.pre self.now.dec) (D.post self.now.dec) }
         requires low { room ≤ self.now.most }
@@ -53,6 +54,7 @@ impl<
     }
 
     /// Declarations as far as they go, each under the directives of those before it.
+    #[inline(never)]
     fn row_of_decs(
         &self,
         room: u32,

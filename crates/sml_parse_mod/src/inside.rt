@@ -19,6 +19,27 @@ use std::alloc::Global;
 /// What was read, and the tokens behind it.
 pub type Read<'a, T> = Result<(T, &'a [Token]), ReadError<'a, Token>>;
 
+/// This structure expression with the ascriptions that follow it, where no `and` of a row may follow. A function of its own, so
+/// that the stack does not hold it while the structure expression is read.
+#[inline(never)]
+fn all_grown<'a>(
+    alloc: Global,
+    room: u32,
+    found: (StrExp, u32),
+    tokens: &'a [Token],
+) -> Read<'a, (StrExp, u32)>
+    ensures { Gives (λ x. (x.0, x.1.now)) result (levels.all_grown room found tokens.now) }
+{
+    let mut growing = Growing::Whole(found);
+    let mut rest = tokens;
+    'ascriptions: while begins_grow(rest) {
+        let (more, after) = grow(alloc, room, &growing, rest)?;
+        growing = with(alloc, growing, more)?;
+        rest = after;
+    }
+    Ok((grown(alloc, growing)?, rest))
+}
+
 /// The forms of structure expressions and of declarations, over readers of those that stand inside.
 #[derive(Clone, Copy)]
 pub struct Inside<B, D> {
@@ -55,6 +76,7 @@ impl<
     }
 
     /// A structure expression that stands inside, where no `and` of a row may follow.
+    #[inline(never)]
     pub fn str_exp(
         &self,
         room: u32,
@@ -66,14 +88,8 @@ impl<
         ensures gives { Gives (λ x. (x.0, x.1.now)) result (read.str_read room false scope.old tokens.now) }
         ensures keeps { OnOk result (scope.new ≡ scope.old) }
     {
-        let (found, mut rest) = self.base(room, scope, tokens)?;
-        let mut growing = Growing::Whole(found);
-        'ascriptions: while begins_grow(rest) {
-            let (more, after) = grow(self.alloc, room, &growing, rest)?;
-            growing = with(self.alloc, growing, more)?;
-            rest = after;
-        }
-        Ok((grown(self.alloc, growing)?, rest))
+        let (found, rest) = self.base(room, scope, tokens)?;
+        all_grown(self.alloc, room, found, rest)
     }
 }
 

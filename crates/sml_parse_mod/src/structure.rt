@@ -90,6 +90,7 @@ impl<
 
     /// Behind `let`, whose place is given.
     #[tactic(auto, using(crate::proofs::Scopes::front_short))]
+    #[inline(never)]
     fn let_str(
         &self,
         place: Place,
@@ -151,6 +152,7 @@ impl<
     }
 
     /// A structure, or a functor with its argument.
+    #[inline(never)]
     fn named(&self, room: u32, scope: &mut Scope, tokens: &'a [Token]) -> Read<'a, (StrExp, u32)>
         requires nests { Nests self.now.most (B.pre self.now.base) (B.post self.now.base) (D.pre self.now.dec) (D.post self.now.dec) }
         requires low { room ≤ self.now.most }

@@ -162,9 +162,9 @@ fn run_level<'a>(
     if goes_on(rest) {
         return Err(ReadError::Refused(Code::Grammar, rest));
     }
-    let place = exp_place(&found.tree);
+    let place = exp_place(found.tree.get());
     Ok((
-        with_height(Top::Run(place, found.tree), found.height)?,
+        with_height(Top::Run(place, found.tree.into_inner()), found.height)?,
         rest,
     ))
 }

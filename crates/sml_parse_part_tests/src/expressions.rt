@@ -10,6 +10,7 @@ use sml_scope::Scope;
 use std::alloc::Global;
 use std::process::Abort;
 use std::test::Fail;
+use tl_text::Boxed;
 
 /// Whether an expression of at most this height is read or refused as expected, and the call stops where the rest begins.
 fn answered(
@@ -197,10 +198,10 @@ fn side(tree: &Exp) -> Option<Side> {
 
 /// The side to which what was read groups.
 fn grouped(
-    found: Result<(Tall<Exp>, &[Token]), ReadError<'_, Token>>,
+    found: Result<(Tall<Boxed<Exp>>, &[Token]), ReadError<'_, Token>>,
 ) -> Result<Option<Side>, Fail> {
     match found {
-        Ok((read, _)) => Ok(side(&read.tree)),
+        Ok((read, _)) => Ok(side(read.tree.get())),
         Err(_) => Err("refused".into()),
     }
 }

@@ -21,7 +21,7 @@ use sml_fix::Fixities;
 use sml_lex::Token;
 use sml_scan::{above, behind, constant, is_constant, is_next, place_of};
 use std::alloc::Global;
-use tl_text::{List, Place};
+use tl_text::{Boxed, List, Place};
 
 const OPEN_PAREN: u32 = 40;
 
@@ -37,10 +37,11 @@ const COMMA: u32 = 46;
 
 const WILDCARD: u32 = 51;
 
-impl<'f, 'a, F: Fn(Global, u32, Level, &Fixities, &'a [Token]) -> Read<'a, (Pat, u32)>> Inside<
+impl<
     'f,
-    F,
-> {
+    'a,
+    F: Fn(Global, u32, Level, &Fixities, &'a [Token]) -> Read<'a, (Boxed<Pat>, u32)>,
+> Inside<'f, F> {
     /// One pattern or more, with commas between.
     fn pats(&self, room: u32, tokens: &'a [Token]) -> Read<'a, (List<Pat>, u32)>
         requires nests { Nests self.now.most (F.pre self.now.phrase) (F.post self.now.phrase) }
@@ -50,12 +51,12 @@ impl<'f, 'a, F: Fn(Global, u32, Level, &Fixities, &'a [Token]) -> Read<'a, (Pat,
         let (first, mut rest) = self.pat(room, tokens)?;
         let mut found = List::new(self.alloc);
         let mut height = first.1;
-        found.push(first.0)?;
+        found.push(first.0.into_inner())?;
         'items: while is_next(COMMA, rest) {
             let after = behind(COMMA, rest)?;
             let (other, after) = self.pat(room, after)?;
             height = higher(height, other.1);
-            found.push(other.0)?;
+            found.push(other.0.into_inner())?;
             rest = after;
         }
         Ok(((found, height), rest))
@@ -95,7 +96,7 @@ impl<'f, 'a, F: Fn(Global, u32, Level, &Fixities, &'a [Token]) -> Read<'a, (Pat,
     {
         let (first, rest) = self.pat(room, tokens)?;
         let (others, rest) = self.behind_first(room, rest)?;
-        let atom = closed(self.alloc, place, first, others)?;
+        let atom = closed(place, first, others)?;
         Ok((atom, rest))
     }
 

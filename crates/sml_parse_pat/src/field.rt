@@ -21,7 +21,7 @@ use sml_lex::Token;
 use sml_parse_ty::ty;
 use sml_scan::{above, behind, is_next, is_other_label, other_label, place_of, vid_or_label};
 use std::alloc::Global;
-use tl_text::{List, Place};
+use tl_text::{Boxed, List, Place};
 
 const AS: u32 = 2;
 
@@ -35,12 +35,13 @@ const DOTS: u32 = 50;
 
 const EQUALS: u32 = 53;
 
-impl<'f, 'a, F: Fn(Global, u32, Level, &Fixities, &'a [Token]) -> Read<'a, (Pat, u32)>> Inside<
+impl<
     'f,
-    F,
-> {
+    'a,
+    F: Fn(Global, u32, Level, &Fixities, &'a [Token]) -> Read<'a, (Boxed<Pat>, u32)>,
+> Inside<'f, F> {
     /// `as p`, where it is next.
-    fn layer(&self, room: u32, tokens: &'a [Token]) -> Read<'a, Option<(Pat, u32)>>
+    fn layer(&self, room: u32, tokens: &'a [Token]) -> Read<'a, Option<(Boxed<Pat>, u32)>>
         requires nests { Nests self.now.most (F.pre self.now.phrase) (F.post self.now.phrase) }
         requires low { room ≤ self.now.most }
         ensures { Gives (λ x. (x.0, x.1.now)) result (maybe (is BEFORE_LAYER) 2 (skip (is BEFORE_LAYER) (read.pat_read room false (settings self.now.fix.now))) room tokens.now) }
@@ -162,7 +163,7 @@ impl<'f, 'a, F: Fn(Global, u32, Level, &Fixities, &'a [Token]) -> Read<'a, (Pat,
     }
 
     /// `= p`; no part of a pattern may follow it.
-    fn value(&self, room: u32, tokens: &'a [Token]) -> Read<'a, (Pat, u32)>
+    fn value(&self, room: u32, tokens: &'a [Token]) -> Read<'a, (Boxed<Pat>, u32)>
         requires nests { Nests self.now.most (F.pre self.now.phrase) (F.post self.now.phrase) }
         requires low { room ≤ self.now.most }
         ensures { Gives (λ x. (x.0, x.1.now)) result (levels.value (settings self.now.fix.now) room tokens.now) }

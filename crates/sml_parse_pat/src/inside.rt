@@ -20,6 +20,7 @@ use sml_lex::Token;
 use sml_parse_ty::ty;
 use sml_scan::{behind, is_next};
 use std::alloc::Global;
+use tl_text::Boxed;
 
 const AS: u32 = 2;
 
@@ -46,12 +47,13 @@ pub struct Inside<'f, F> {
     pub phrase: F,
 }
 
-impl<'f, 'a, F: Fn(Global, u32, Level, &Fixities, &'a [Token]) -> Read<'a, (Pat, u32)>> Inside<
+impl<
     'f,
-    F,
-> {
+    'a,
+    F: Fn(Global, u32, Level, &Fixities, &'a [Token]) -> Read<'a, (Boxed<Pat>, u32)>,
+> Inside<'f, F> {
     /// A pattern that stands inside.
-    pub fn pat(&self, room: u32, tokens: &'a [Token]) -> Read<'a, (Pat, u32)>
+    pub fn pat(&self, room: u32, tokens: &'a [Token]) -> Read<'a, (Boxed<Pat>, u32)>
         requires nests { Nests self.now.most (F.pre self.now.phrase) (F.post self.now.phrase) }
         requires low { room ≤ self.now.most }
         ensures { Gives (λ x. (x.0, x.1.now)) result (read.pat_read room false (settings self.now.fix.now) tokens.now) }
@@ -60,7 +62,7 @@ impl<'f, 'a, F: Fn(Global, u32, Level, &Fixities, &'a [Token]) -> Read<'a, (Pat,
     }
 
     /// A row that stands on the right of an operator.
-    pub fn right(&self, room: u32, floor: Floor, tokens: &'a [Token]) -> Read<'a, (Pat, u32)>
+    pub fn right(&self, room: u32, floor: Floor, tokens: &'a [Token]) -> Read<'a, (Boxed<Pat>, u32)>
         requires nests { Nests self.now.most (F.pre self.now.phrase) (F.post self.now.phrase) }
         requires low { room ≤ self.now.most }
         ensures { Gives (λ x. (x.0, x.1.now)) result (read.row_read room false floor (settings self.now.fix.now) tokens.now) }
@@ -69,7 +71,7 @@ impl<'f, 'a, F: Fn(Global, u32, Level, &Fixities, &'a [Token]) -> Read<'a, (Pat,
     }
 
     /// A row of operators that no part of a pattern follows.
-    fn base(&self, room: u32, tokens: &'a [Token]) -> Read<'a, (Pat, u32)>
+    fn base(&self, room: u32, tokens: &'a [Token]) -> Read<'a, (Boxed<Pat>, u32)>
         requires nests { Nests self.now.most (F.pre self.now.phrase) (F.post self.now.phrase) }
         requires low { room ≤ self.now.most }
         ensures { Gives (λ x. (x.0, x.1.now)) result (levels.base_level (settings self.now.fix.now) room tokens.now) }
@@ -94,7 +96,7 @@ impl<'f, 'a, F: Fn(Global, u32, Level, &Fixities, &'a [Token]) -> Read<'a, (Pat,
     }
 
     /// `p : t : u`
-    fn typed(&self, room: u32, tokens: &'a [Token]) -> Read<'a, (Pat, u32)>
+    fn typed(&self, room: u32, tokens: &'a [Token]) -> Read<'a, (Boxed<Pat>, u32)>
         requires nests { Nests self.now.most (F.pre self.now.phrase) (F.post self.now.phrase) }
         requires low { room ≤ self.now.most }
         ensures { Gives (λ x. (x.0, x.1.now)) result (levels.typed_level (settings self.now.fix.now) room tokens.now) }
@@ -113,7 +115,12 @@ impl<'f, 'a, F: Fn(Global, u32, Level, &Fixities, &'a [Token]) -> Read<'a, (Pat,
     }
 
     /// `as p`, where it is next; what stands before it is a bare identifier or not.
-    fn upper(&self, room: u32, bare: bool, tokens: &'a [Token]) -> Read<'a, Option<(Pat, u32)>>
+    fn upper(
+        &self,
+        room: u32,
+        bare: bool,
+        tokens: &'a [Token],
+    ) -> Read<'a, Option<(Boxed<Pat>, u32)>>
         requires nests { Nests self.now.most (F.pre self.now.phrase) (F.post self.now.phrase) }
         requires low { room ≤ self.now.most }
         ensures { Gives (λ x. (x.0, x.1.now)) result (levels.upper (settings self.now.fix.now) room bare tokens.now) }
@@ -133,7 +140,7 @@ impl<'f, 'a, F: Fn(Global, u32, Level, &Fixities, &'a [Token]) -> Read<'a, (Pat,
     }
 
     /// `x as p`
-    fn whole(&self, room: u32, tokens: &'a [Token]) -> Read<'a, (Pat, u32)>
+    fn whole(&self, room: u32, tokens: &'a [Token]) -> Read<'a, (Boxed<Pat>, u32)>
         requires nests { Nests self.now.most (F.pre self.now.phrase) (F.post self.now.phrase) }
         requires low { room ≤ self.now.most }
         ensures { Gives (λ x. (x.0, x.1.now)) result (levels.pat_level (settings self.now.fix.now) room tokens.now) }
@@ -147,7 +154,8 @@ impl<'f, 'a, F: Fn(Global, u32, Level, &Fixities, &'a [Token]) -> Read<'a, (Pat,
     }
 }
 
-/// The pattern or the row that is next, of at most this height.
+/// The pattern or the row that is next, of at most this height. It is on the heap from the start, so that a level of nesting takes
+/// little of the stack.
 #[tactic(auto, unfolding(sml_grammar::specs::ReadPats::pat_read, sml_grammar::specs::ReadPats::row_read))]
 fn phrase<'a>(
     alloc: Global,
@@ -155,7 +163,7 @@ fn phrase<'a>(
     level: Level,
     fix: &Fixities,
     tokens: &'a [Token],
-) -> Read<'a, (Pat, u32)>
+) -> Read<'a, (Boxed<Pat>, u32)>
     ensures { Gives (λ x. (x.0, x.1.now)) result (levels.phrase (settings fix.now) room level tokens.now) }
 {
     if room == 0 {
@@ -185,7 +193,8 @@ pub fn pat<'a>(
 ) -> Read<'a, (Pat, u32)>
     ensures { Gives (λ x. (x.0, x.1.now)) result (read.pat_read room false (settings fix.now) tokens.now) }
 {
-    phrase(alloc, room, Level::Whole, fix, tokens)
+    let ((found, height), rest) = phrase(alloc, room, Level::Whole, fix, tokens)?;
+    Ok(((found.into_inner(), height), rest))
 }
 
 /// The atomic pattern that is next, of at most this height.

@@ -16,7 +16,7 @@ use sml_fix::Fixities;
 use sml_lex::Token;
 use sml_scan::{fixity_of, infix_vid, is_long_vid, long_vid, next_fixity, op_long_vid, place_of};
 use std::alloc::Global;
-use tl_text::Place;
+use tl_text::{Boxed, Place};
 
 const OP: u32 = 20;
 
@@ -47,10 +47,11 @@ fn is_taken(fix: &Fixities, floor: Floor, tokens: &[Token]) -> bool
     }
 }
 
-impl<'f, 'a, F: Fn(Global, u32, Level, &Fixities, &'a [Token]) -> Read<'a, (Pat, u32)>> Inside<
+impl<
     'f,
-    F,
-> {
+    'a,
+    F: Fn(Global, u32, Level, &Fixities, &'a [Token]) -> Read<'a, (Boxed<Pat>, u32)>,
+> Inside<'f, F> {
     /// An atomic pattern of at most this height.
     #[tactic(auto, unfolding(sml_grammar::specs::ReadPats::at_read))]
     fn argument(&self, room: u32, tokens: &'a [Token]) -> Read<'a, (AtPat, u32)>
@@ -78,28 +79,28 @@ impl<'f, 'a, F: Fn(Global, u32, Level, &Fixities, &'a [Token]) -> Read<'a, (Pat,
     }
 
     /// `C`, `C p`
-    fn construction(&self, room: u32, tokens: &'a [Token]) -> Read<'a, (Pat, u32)>
+    fn construction(&self, room: u32, tokens: &'a [Token]) -> Read<'a, (Boxed<Pat>, u32)>
         requires nests { Nests self.now.most (F.pre self.now.phrase) (F.post self.now.phrase) }
         requires low { room ≤ self.now.most }
         ensures { Gives (λ x. (x.0, x.1.now)) result (levels.construction (settings self.now.fix.now) room tokens.now) }
     {
         let (name, rest) = name(self.alloc, self.fix, tokens)?;
         let (arg, rest) = self.some_argument(room, rest)?;
-        Ok((constructed(name, arg)?, rest))
+        Ok((constructed(self.alloc, name, arg)?, rest))
     }
 
     /// An atomic pattern that is no identifier, as an operand.
-    fn other_operand(&self, room: u32, tokens: &'a [Token]) -> Read<'a, (Pat, u32)>
+    fn other_operand(&self, room: u32, tokens: &'a [Token]) -> Read<'a, (Boxed<Pat>, u32)>
         requires nests { Nests self.now.most (F.pre self.now.phrase) (F.post self.now.phrase) }
         requires low { room ≤ self.now.most }
         ensures { Gives (λ x. (x.0, x.1.now)) result (mapped grammar.operand_of (mapped grammar.Operand.Atom (levels.other_level (settings self.now.fix.now) room)) tokens.now) }
     {
         let (atom, rest) = self.other(room, tokens)?;
-        Ok((atomic(atom)?, rest))
+        Ok((atomic(self.alloc, atom)?, rest))
     }
 
     /// What stands between operators, whatever follows.
-    fn open_operand(&self, room: u32, tokens: &'a [Token]) -> Read<'a, (Pat, u32)>
+    fn open_operand(&self, room: u32, tokens: &'a [Token]) -> Read<'a, (Boxed<Pat>, u32)>
         requires nests { Nests self.now.most (F.pre self.now.phrase) (F.post self.now.phrase) }
         requires low { room ≤ self.now.most }
         ensures { Gives (λ x. (x.0, x.1.now)) result (levels.open_operand (settings self.now.fix.now) room tokens.now) }
@@ -120,7 +121,7 @@ impl<'f, 'a, F: Fn(Global, u32, Level, &Fixities, &'a [Token]) -> Read<'a, (Pat,
     }
 
     /// What stands between operators; no atomic pattern may follow it.
-    fn operand(&self, room: u32, tokens: &'a [Token]) -> Read<'a, (Pat, u32)>
+    fn operand(&self, room: u32, tokens: &'a [Token]) -> Read<'a, (Boxed<Pat>, u32)>
         requires nests { Nests self.now.most (F.pre self.now.phrase) (F.post self.now.phrase) }
         requires low { room ≤ self.now.most }
         ensures { Gives (λ x. (x.0, x.1.now)) result (levels.operand (settings self.now.fix.now) room tokens.now) }
@@ -137,9 +138,9 @@ impl<'f, 'a, F: Fn(Global, u32, Level, &Fixities, &'a [Token]) -> Read<'a, (Pat,
         &self,
         room: u32,
         floor: Floor,
-        left: &(Pat, u32),
+        left: &(Boxed<Pat>, u32),
         tokens: &'a [Token],
-    ) -> Read<'a, (Ident, (Pat, u32))>
+    ) -> Read<'a, (Ident, (Boxed<Pat>, u32))>
         requires nests { Nests self.now.most (F.pre self.now.phrase) (F.post self.now.phrase) }
         requires low { room ≤ self.now.most }
         requires comes { head_is (levels.taken (settings self.now.fix.now) floor) (first tokens.now) ≡ true }
@@ -156,7 +157,7 @@ impl<'f, 'a, F: Fn(Global, u32, Level, &Fixities, &'a [Token]) -> Read<'a, (Pat,
     }
 
     /// The row that stands on this floor, as far as it goes, where its operands have this room.
-    pub fn row(&self, room: u32, floor: Floor, tokens: &'a [Token]) -> Read<'a, (Pat, u32)>
+    pub fn row(&self, room: u32, floor: Floor, tokens: &'a [Token]) -> Read<'a, (Boxed<Pat>, u32)>
         requires nests { Nests self.now.most (F.pre self.now.phrase) (F.post self.now.phrase) }
         requires low { room ≤ self.now.most }
         ensures { Gives (λ x. (x.0, x.1.now)) result (levels.row_level (settings self.now.fix.now) room floor tokens.now) }

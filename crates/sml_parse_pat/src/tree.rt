@@ -62,98 +62,93 @@ pub fn goes_on(field: &(PField, u32)) -> bool
 }
 
 /// `(p)`
-fn paren(alloc: Global, place: Place, inner: (Pat, u32)) -> Result<(AtPat, u32), NoMemory>
+fn paren(place: Place, inner: (Boxed<Pat>, u32)) -> Result<(AtPat, u32), NoMemory>
     ensures { IfOk result (λ x. x ≡ (at.PParen place inner.0, inner.1 + 1)) }
 {
     let height = above(inner.1, 0)?;
-    let inner = Boxed::new(alloc, inner.0)?;
-    Ok((AtPat::PParen(place, inner), height))
+    Ok((AtPat::PParen(place, inner.0), height))
 }
 
 /// `(p, q)`, where the patterns behind the first have at most this height.
 fn tupled(
-    alloc: Global,
     place: Place,
-    first: (Pat, u32),
+    first: (Boxed<Pat>, u32),
     others: (List<Pat>, u32),
 ) -> Result<(AtPat, u32), NoMemory>
     ensures { IfOk result (λ x. x ≡ (at.PTuple place first.0 others.0, max first.1 others.1 + 1)) }
 {
     let height = above(first.1, others.1)?;
-    let first = Boxed::new(alloc, first.0)?;
-    Ok((AtPat::PTuple(place, first, others.0), height))
+    Ok((AtPat::PTuple(place, first.0, others.0), height))
 }
 
 /// `(p)`, `(p, q)`
 pub fn closed(
-    alloc: Global,
     place: Place,
-    first: (Pat, u32),
+    first: (Boxed<Pat>, u32),
     others: Option<(List<Pat>, u32)>,
 ) -> Result<(AtPat, u32), NoMemory>
     ensures { IfOk result (λ x. x ≡ rows.closed place first others) }
 {
     match others {
-        None => paren(alloc, place, first),
-        Some(others) => tupled(alloc, place, first, others),
+        None => paren(place, first),
+        Some(others) => tupled(place, first, others),
     }
 }
 
 /// `C`, `C p`
 pub fn constructed(
+    alloc: Global,
     name: (Place, bool, LongIdent),
     arg: Option<(AtPat, u32)>,
-) -> Result<(Pat, u32), NoMemory>
+) -> Result<(Boxed<Pat>, u32), NoMemory>
     ensures { IfOk result (λ x. x ≡ grammar.operand_of (grammar.Operand.Con ((name, 1), arg))) }
 {
     match arg {
-        None => Ok((Pat::PAtom(name.0, AtPat::PId(name.0, name.1, name.2)), 2)),
+        None => {
+            let pat = Pat::PAtom(name.0, AtPat::PId(name.0, name.1, name.2));
+            Ok((Boxed::new(alloc, pat)?, 2))
+        }
         Some((atom, height)) => {
             let height = above(1, height)?;
-            Ok((Pat::PCon(name.0, name.1, name.2, atom), height))
+            let pat = Pat::PCon(name.0, name.1, name.2, atom);
+            Ok((Boxed::new(alloc, pat)?, height))
         }
     }
 }
 
 /// An atomic pattern that is no identifier.
-pub fn atomic(atom: (AtPat, u32)) -> Result<(Pat, u32), NoMemory>
+pub fn atomic(alloc: Global, atom: (AtPat, u32)) -> Result<(Boxed<Pat>, u32), NoMemory>
     ensures { IfOk result (λ x. x ≡ grammar.operand_of (grammar.Operand.Atom atom)) }
 {
     let height = above(atom.1, 0)?;
     let place = at_place(&atom.0);
-    Ok((Pat::PAtom(place, atom.0), height))
-}
-
-fn pair(alloc: Global, left: Pat, right: Pat) -> Result<(Boxed<Pat>, Boxed<Pat>), NoMemory>
-    ensures { IfOk result (λ x. x ≡ (left, right)) }
-{
-    let left = Boxed::new(alloc, left)?;
-    let right = Boxed::new(alloc, right)?;
-    Ok((left, right))
+    Ok((Boxed::new(alloc, Pat::PAtom(place, atom.0))?, height))
 }
 
 /// `p :: q`, where the higher one has this height.
 fn infix_node(
     alloc: Global,
-    left: Pat,
+    left: Boxed<Pat>,
     op: Ident,
-    right: Pat,
+    right: Boxed<Pat>,
     height: u32,
-) -> Result<(Pat, u32), NoMemory>
+) -> Result<(Boxed<Pat>, u32), NoMemory>
     ensures { IfOk result (λ x. x ≡ (pats.PInfix (grammar.pat_place left) left op right, height)) }
 {
-    let place = pat_place(&left);
-    let (left, right) = pair(alloc, left, right)?;
-    Ok((Pat::PInfix(place, left, op, right), height))
+    let place = pat_place(left.get());
+    Ok((
+        Boxed::new(alloc, Pat::PInfix(place, left, op, right))?,
+        height,
+    ))
 }
 
 /// `p :: q`
 pub fn infixed(
     alloc: Global,
-    left: (Pat, u32),
+    left: (Boxed<Pat>, u32),
     op: Ident,
-    right: (Pat, u32),
-) -> Result<(Pat, u32), NoMemory>
+    right: (Boxed<Pat>, u32),
+) -> Result<(Boxed<Pat>, u32), NoMemory>
     ensures { IfOk result (λ x. x ≡ grammar.infix_of left op right) }
 {
     match left.1.max(right.1).checked_add(1) {
@@ -163,23 +158,26 @@ pub fn infixed(
 }
 
 /// How the operator at the top binds.
-pub fn top_fixity(fix: &Fixities, pat: &Pat) -> Option<Fixity>
+pub fn top_fixity(fix: &Fixities, pat: &Boxed<Pat>) -> Option<Fixity>
     ensures { result ≡ rows.top_fixity (settings fix.now) pat.now }
 {
-    match pat {
+    match pat.get() {
         Pat::PInfix(_, _, op, _) => Some(fixity_of(fix, &op.1)),
         _ => None,
     }
 }
 
 /// `p : t`
-pub fn typed(alloc: Global, pat: (Pat, u32), ty: (Ty, u32)) -> Result<(Pat, u32), NoMemory>
+pub fn typed(
+    alloc: Global,
+    pat: (Boxed<Pat>, u32),
+    ty: (Ty, u32),
+) -> Result<(Boxed<Pat>, u32), NoMemory>
     ensures { IfOk result (λ x. x ≡ grammar.typed_of pat ty) }
 {
     let height = above(pat.1, ty.1)?;
-    let place = pat_place(&pat.0);
-    let pat = Boxed::new(alloc, pat.0)?;
-    Ok((Pat::PTyped(place, pat, ty.0), height))
+    let place = pat_place(pat.0.get());
+    Ok((Boxed::new(alloc, Pat::PTyped(place, pat.0, ty.0))?, height))
 }
 
 /// `x`
@@ -193,7 +191,7 @@ pub fn pun(vid: Ident) -> (PField, u32)
 pub fn typed_pun(
     vid: Ident,
     ty: (Ty, u32),
-    pat: Option<(Pat, u32)>,
+    pat: Option<(Boxed<Pat>, u32)>,
 ) -> Result<(PField, u32), NoMemory>
     ensures { IfOk result (λ x. x ≡ rows.typed_field vid ty pat) }
 {
@@ -204,25 +202,31 @@ pub fn typed_pun(
         }
         Some(pat) => {
             let height = above(ty.1, pat.1)?;
-            Ok((PField::Pun(vid.0, vid, Some(ty.0), Some(pat.0)), height))
+            Ok((
+                PField::Pun(vid.0, vid, Some(ty.0), Some(pat.0.into_inner())),
+                height,
+            ))
         }
     }
 }
 
 /// `x as p`
-pub fn layered_pun(vid: Ident, pat: (Pat, u32)) -> Result<(PField, u32), NoMemory>
+pub fn layered_pun(vid: Ident, pat: (Boxed<Pat>, u32)) -> Result<(PField, u32), NoMemory>
     ensures { IfOk result (λ x. x ≡ rows.layered_field vid pat) }
 {
     let height = above(pat.1, 0)?;
-    Ok((PField::Pun(vid.0, vid, None, Some(pat.0)), height))
+    Ok((
+        PField::Pun(vid.0, vid, None, Some(pat.0.into_inner())),
+        height,
+    ))
 }
 
 /// `a = p`
-pub fn named(label: Label, pat: (Pat, u32)) -> Result<(PField, u32), NoMemory>
+pub fn named(label: Label, pat: (Boxed<Pat>, u32)) -> Result<(PField, u32), NoMemory>
     ensures { IfOk result (λ x. x ≡ grammar.named_of (label, pat)) }
 {
     let height = above(pat.1, 0)?;
-    Ok((PField::Named(label.0, label, pat.0), height))
+    Ok((PField::Named(label.0, label, pat.0.into_inner()), height))
 }
 
 fn is_bare_atom(atom: &AtPat) -> bool
@@ -235,10 +239,10 @@ fn is_bare_atom(atom: &AtPat) -> bool
 }
 
 /// Whether it is an identifier, perhaps with a type, behind which `as` may stand.
-pub fn is_bare(pat: &(Pat, u32)) -> bool
+pub fn is_bare(pat: &(Boxed<Pat>, u32)) -> bool
     ensures { result ≡ grammar.is_bare pat.now }
 {
-    match &pat.0 {
+    match pat.0.get() {
         Pat::PAtom(_, atom) => is_bare_atom(atom),
         Pat::PTyped(_, inner, _) => match inner.get() {
             Pat::PAtom(_, atom) => is_bare_atom(atom),
@@ -287,29 +291,30 @@ fn layer_node(
     alloc: Global,
     place: Place,
     bare: Option<(bool, Ident, Option<Ty>)>,
-    inner: Pat,
-) -> Result<Pat, NoMemory>
+    inner: Boxed<Pat>,
+) -> Result<Boxed<Pat>, NoMemory>
     ensures { IfOk result (λ x. x ≡ grammar.layer_in place bare inner) }
 {
     match bare {
         None => Ok(inner),
-        Some((op, vid, ty)) => {
-            let inner = Boxed::new(alloc, inner)?;
-            Ok(Pat::Layer(place, op, vid, ty, inner))
-        }
+        Some((op, vid, ty)) => Ok(Boxed::new(alloc, Pat::Layer(place, op, vid, ty, inner))?),
     }
 }
 
-fn layer(alloc: Global, pat: Pat, inner: Pat) -> Result<Pat, NoMemory>
+fn layer(alloc: Global, pat: Boxed<Pat>, inner: Boxed<Pat>) -> Result<Boxed<Pat>, NoMemory>
     ensures { IfOk result (λ x. x ≡ grammar.layer_in (grammar.pat_place pat) (rows.bare_of pat) inner) }
 {
-    let place = pat_place(&pat);
-    let bare = bare(alloc, pat)?;
+    let place = pat_place(pat.get());
+    let bare = bare(alloc, pat.into_inner())?;
     layer_node(alloc, place, bare, inner)
 }
 
 /// `x as p`, `x : t as p`
-pub fn layered(alloc: Global, pat: (Pat, u32), inner: (Pat, u32)) -> Result<(Pat, u32), NoMemory>
+pub fn layered(
+    alloc: Global,
+    pat: (Boxed<Pat>, u32),
+    inner: (Boxed<Pat>, u32),
+) -> Result<(Boxed<Pat>, u32), NoMemory>
     ensures { IfOk result (λ x. x ≡ grammar.layer_of pat inner) }
 {
     let height = pat.1.max(above(inner.1, 0)?);

@@ -17,7 +17,7 @@ use sml_scan::{
     place_of, record_label, type_variable,
 };
 use std::alloc::Global;
-use tl_text::{List, Place};
+use tl_text::{Boxed, List, Place};
 
 const ARROW: u32 = 55;
 
@@ -34,7 +34,7 @@ const OPEN_BRACE: u32 = 44;
 const OPEN_PAREN: u32 = 40;
 
 /// What was read, and the tokens behind it.
-type Read<'a, T> = Result<(T, &'a [Token]), ReadError<'a, Token>>;
+pub type Read<'a, T> = Result<(T, &'a [Token]), ReadError<'a, Token>>;
 
 fn begins_ty(tokens: &[Token]) -> bool
     ensures { result ≡ head_is read.begins_ty (first tokens.now) }
@@ -52,9 +52,9 @@ struct Inside<F> {
     ty: F,
 }
 
-impl<'a, F: Fn(Global, u32, &'a [Token]) -> Read<'a, (Ty, u32)>> Inside<F> {
+impl<'a, F: Fn(Global, u32, &'a [Token]) -> Read<'a, (Boxed<Ty>, u32)>> Inside<F> {
     /// A type that stands inside.
-    fn ty(&self, room: u32, tokens: &'a [Token]) -> Read<'a, (Ty, u32)>
+    fn ty(&self, room: u32, tokens: &'a [Token]) -> Read<'a, (Boxed<Ty>, u32)>
         requires nests { Nests (λ r. read.ty_read r) self.now.most (F.pre self.now.ty) (F.post self.now.ty) }
         requires low { room ≤ self.now.most }
         ensures { Gives (λ x. (x.0, x.1.now)) result (read.ty_read room tokens.now) }
@@ -63,7 +63,7 @@ impl<'a, F: Fn(Global, u32, &'a [Token]) -> Read<'a, (Ty, u32)>> Inside<F> {
     }
 
     /// `a : t`
-    fn field(&self, room: u32, tokens: &'a [Token]) -> Read<'a, (Label, (Ty, u32))>
+    fn field(&self, room: u32, tokens: &'a [Token]) -> Read<'a, (Label, (Boxed<Ty>, u32))>
         requires nests { Nests (λ r. read.ty_read r) self.now.most (F.pre self.now.ty) (F.post self.now.ty) }
         requires low { room ≤ self.now.most }
         ensures { Gives (λ x. (x.0, x.1.now)) result (read.field_read (read.ty_read room) tokens.now) }
@@ -83,12 +83,12 @@ impl<'a, F: Fn(Global, u32, &'a [Token]) -> Read<'a, (Ty, u32)>> Inside<F> {
         let (first, mut rest) = self.field(room, tokens)?;
         let mut found = List::new(self.alloc);
         let mut height = first.1.1;
-        found.push((first.0, first.1.0))?;
+        found.push((first.0, first.1.0.into_inner()))?;
         'items: while is_next(COMMA, rest) {
             let after = behind(COMMA, rest)?;
             let (other, after) = self.field(room, after)?;
             height = higher(height, other.1.1);
-            found.push((other.0, other.1.0))?;
+            found.push((other.0, other.1.0.into_inner()))?;
             rest = after;
         }
         Ok(((found, height), rest))
@@ -103,12 +103,12 @@ impl<'a, F: Fn(Global, u32, &'a [Token]) -> Read<'a, (Ty, u32)>> Inside<F> {
         let (first, mut rest) = self.ty(room, tokens)?;
         let mut found = List::new(self.alloc);
         let mut height = first.1;
-        found.push(first.0)?;
+        found.push(first.0.into_inner())?;
         'items: while is_next(COMMA, rest) {
             let after = behind(COMMA, rest)?;
             let (other, after) = self.ty(room, after)?;
             height = higher(height, other.1);
-            found.push(other.0)?;
+            found.push(other.0.into_inner())?;
             rest = after;
         }
         Ok(((found, height), rest))
@@ -123,26 +123,27 @@ impl<'a, F: Fn(Global, u32, &'a [Token]) -> Read<'a, (Ty, u32)>> Inside<F> {
         let (first, mut rest) = self.con(room, tokens)?;
         let mut found = List::new(self.alloc);
         let mut height = first.1;
-        found.push(first.0)?;
+        found.push(first.0.into_inner())?;
         'items: while is_times(rest) {
             let after = behind_times(rest)?;
             let (other, after) = self.con(room, after)?;
             height = higher(height, other.1);
-            found.push(other.0)?;
+            found.push(other.0.into_inner())?;
             rest = after;
         }
         Ok(((found, height), rest))
     }
 
     /// Behind an opening brace.
-    fn record(&self, place: Place, room: u32, tokens: &'a [Token]) -> Read<'a, (Ty, u32)>
+    fn record(&self, place: Place, room: u32, tokens: &'a [Token]) -> Read<'a, (Boxed<Ty>, u32)>
         requires nests { Nests (λ r. read.ty_read r) self.now.most (F.pre self.now.ty) (F.post self.now.ty) }
         requires low { room ≤ self.now.most }
         ensures { Gives (λ x. (x.0, x.1.now)) result (mapped (λ x. grammar.fields_of (place, x)) (enclosed (tokens_of labels) 1 (is SEPARATES) (read.field_read (read.ty_read room)) (is CLOSES_FIELDS) room) tokens.now) }
     {
         if is_next(CLOSE_BRACE, tokens) {
             let rest = behind(CLOSE_BRACE, tokens)?;
-            return Ok(((Ty::TFields(place, List::new(self.alloc)), 1), rest));
+            let empty = Ty::TFields(place, List::new(self.alloc));
+            return Ok(((Boxed::new(self.alloc, empty)?, 1), rest));
         }
         if !is_label(tokens) {
             return Err(ReadError::Refused(Code::Grammar, tokens));
@@ -153,7 +154,10 @@ impl<'a, F: Fn(Global, u32, &'a [Token]) -> Read<'a, (Ty, u32)>> Inside<F> {
         let ((found, height), rest) = self.fields(room, tokens)?;
         let rest = behind(CLOSE_BRACE, rest)?;
         let height = above(height, 0)?;
-        Ok(((Ty::TFields(place, found), height), rest))
+        Ok((
+            (Boxed::new(self.alloc, Ty::TFields(place, found))?, height),
+            rest,
+        ))
     }
 
     /// Behind the comma of arguments in parentheses.
@@ -168,7 +172,7 @@ impl<'a, F: Fn(Global, u32, &'a [Token]) -> Read<'a, (Ty, u32)>> Inside<F> {
     }
 
     /// Behind an opening parenthesis.
-    fn paren(&self, place: Place, room: u32, tokens: &'a [Token]) -> Read<'a, (Ty, u32)>
+    fn paren(&self, place: Place, room: u32, tokens: &'a [Token]) -> Read<'a, (Boxed<Ty>, u32)>
         requires nests { Nests (λ r. read.ty_read r) self.now.most (F.pre self.now.ty) (F.post self.now.ty) }
         requires low { room ≤ self.now.most }
         ensures { Gives (λ x. (x.0, x.1.now)) result (mapped (λ x. grammar.paren_of (place, x)) (both (read.ty_read room) (read.behind_read (read.ty_read room))) tokens.now) }
@@ -181,22 +185,23 @@ impl<'a, F: Fn(Global, u32, &'a [Token]) -> Read<'a, (Ty, u32)>> Inside<F> {
         let rest = behind(COMMA, rest)?;
         let (others, rest) = self.args(room, rest)?;
         let (name, rest) = long_tycon(self.alloc, rest)?;
-        Ok((put_into(place, first, others, name)?, rest))
+        Ok((put_into(self.alloc, place, first, others, name)?, rest))
     }
 
     /// A type that begins with no other one.
-    fn atom(&self, room: u32, tokens: &'a [Token]) -> Read<'a, (Ty, u32)>
+    fn atom(&self, room: u32, tokens: &'a [Token]) -> Read<'a, (Boxed<Ty>, u32)>
         requires nests { Nests (λ r. read.ty_read r) self.now.most (F.pre self.now.ty) (F.post self.now.ty) }
         requires low { room ≤ self.now.most }
         ensures { Gives (λ x. (x.0, x.1.now)) result (read.atom_level (read.ty_read room) room tokens.now) }
     {
         if is_tyvar(tokens) {
             let (name, rest) = type_variable(self.alloc, tokens)?;
-            return Ok(((Ty::Tyvar(name.0, name), 1), rest));
+            return Ok(((Boxed::new(self.alloc, Ty::Tyvar(name.0, name))?, 1), rest));
         }
         if is_long_tycon(tokens) {
             let (name, rest) = long_tycon(self.alloc, tokens)?;
-            return Ok(((Ty::TCon(name.0, List::new(self.alloc), name), 1), rest));
+            let con = Ty::TCon(name.0, List::new(self.alloc), name);
+            return Ok(((Boxed::new(self.alloc, con)?, 1), rest));
         }
         if is_next(OPEN_BRACE, tokens) {
             let (place, rest) = place_of(OPEN_BRACE, tokens)?;
@@ -213,7 +218,7 @@ impl<'a, F: Fn(Global, u32, &'a [Token]) -> Read<'a, (Ty, u32)>> Inside<F> {
     }
 
     /// `t c d`: a type and the constructors behind it.
-    fn con_level(&self, room: u32, tokens: &'a [Token]) -> Read<'a, (Ty, u32)>
+    fn con_level(&self, room: u32, tokens: &'a [Token]) -> Read<'a, (Boxed<Ty>, u32)>
         requires nests { Nests (λ r. read.ty_read r) self.now.most (F.pre self.now.ty) (F.post self.now.ty) }
         requires low { room ≤ self.now.most }
         ensures { Gives (λ x. (x.0, x.1.now)) result (read.con_level (read.ty_read room) room tokens.now) }
@@ -232,7 +237,7 @@ impl<'a, F: Fn(Global, u32, &'a [Token]) -> Read<'a, (Ty, u32)>> Inside<F> {
 
     /// A type that is no tuple and no arrow.
     #[tactic(auto, unfolding(sml_grammar::specs::ReadTypes::con_read))]
-    fn con(&self, room: u32, tokens: &'a [Token]) -> Read<'a, (Ty, u32)>
+    fn con(&self, room: u32, tokens: &'a [Token]) -> Read<'a, (Boxed<Ty>, u32)>
         requires nests { Nests (λ r. read.ty_read r) self.now.most (F.pre self.now.ty) (F.post self.now.ty) }
         requires low { room ≤ self.now.most + 1 }
         ensures { Gives (λ x. (x.0, x.1.now)) result (read.con_read room tokens.now) }
@@ -244,7 +249,7 @@ impl<'a, F: Fn(Global, u32, &'a [Token]) -> Read<'a, (Ty, u32)>> Inside<F> {
     }
 
     /// `t * u * v`
-    fn tuple_level(&self, room: u32, tokens: &'a [Token]) -> Read<'a, (Ty, u32)>
+    fn tuple_level(&self, room: u32, tokens: &'a [Token]) -> Read<'a, (Boxed<Ty>, u32)>
         requires nests { Nests (λ r. read.ty_read r) self.now.most (F.pre self.now.ty) (F.post self.now.ty) }
         requires low { room ≤ self.now.most }
         ensures { Gives (λ x. (x.0, x.1.now)) result (read.tuple_level (read.ty_read room) (read.con_read room) room tokens.now) }
@@ -262,7 +267,7 @@ impl<'a, F: Fn(Global, u32, &'a [Token]) -> Read<'a, (Ty, u32)>> Inside<F> {
     }
 
     /// `t -> u`
-    fn whole(&self, room: u32, tokens: &'a [Token]) -> Read<'a, (Ty, u32)>
+    fn whole(&self, room: u32, tokens: &'a [Token]) -> Read<'a, (Boxed<Ty>, u32)>
         requires nests { Nests (λ r. read.ty_read r) self.now.most (F.pre self.now.ty) (F.post self.now.ty) }
         requires low { room ≤ self.now.most }
         ensures { Gives (λ x. (x.0, x.1.now)) result (read.ty_level (read.ty_read room) (read.con_read room) room tokens.now) }
@@ -280,12 +285,13 @@ impl<'a, F: Fn(Global, u32, &'a [Token]) -> Read<'a, (Ty, u32)>> Inside<F> {
     }
 }
 
-/// The type that is next, of at most this height, as far as the tokens go on with it.
+/// The type that is next, of at most this height, as far as the tokens go on with it. It is on the heap from the start, so that a
+/// level of nesting takes little of the stack.
 ///
 /// # Errors
 /// Grammar, Depth at the first token with which no type goes on. NoMemory where none is left.
 #[tactic(auto, unfolding(sml_grammar::specs::ReadTypes::ty_read))]
-pub fn ty<'a>(alloc: Global, room: u32, tokens: &'a [Token]) -> Read<'a, (Ty, u32)>
+pub fn ty<'a>(alloc: Global, room: u32, tokens: &'a [Token]) -> Read<'a, (Boxed<Ty>, u32)>
     ensures { Gives (λ x. (x.0, x.1.now)) result (read.ty_read room tokens.now) }
 {
     if room == 0 {

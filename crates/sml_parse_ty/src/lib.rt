@@ -11,8 +11,7 @@ mod inside;
 mod parse;
 mod tree;
 
-pub use inside::ty;
-pub use parse::parse_ty;
+pub use parse::{parse_ty, ty};
 
 #[cfg(test)]
 mod tests;

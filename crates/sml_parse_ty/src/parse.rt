@@ -1,17 +1,30 @@
 ghost use Rattle.std.specs.Prelude.{◌≡◌, ◌<◌, ◌≤◌, ◌^◌, ℕ, length, drop, true, IfOk};
+ghost use Rattle.readers.specs.Given.{Gives};
 ghost use Rattle.readers.specs.Reader.{first};
 ghost use Rattle.sml_ast.specs.declared.ty.Ty.{Ty};
 ghost use Rattle.sml_fix.specs.Fixities.{settings};
+ghost use Rattle.sml_grammar.specs.ReadTypes as read;
 ghost use Rattle.sml_scan.specs.Faults.{RefusesAs};
 ghost use Rattle.sml_parse_ty.specs.Promise as spec;
 
-use crate::inside::ty;
+use crate::inside::{self, Read};
 use sml_ast::Ty;
 use sml_fix::Fixities;
-use sml_lex::Tokens;
+use sml_lex::{Token, Tokens};
 use sml_scan::fault;
 use std::alloc::Global;
 use tl_text::Fault;
+
+/// The type that is next, of at most this height, as far as the tokens go on with it.
+///
+/// # Errors
+/// Grammar, Depth at the first token with which no type goes on. NoMemory where none is left.
+pub fn ty<'a>(alloc: Global, room: u32, tokens: &'a [Token]) -> Read<'a, (Ty, u32)>
+    ensures { Gives (λ x. (x.0, x.1.now)) result (read.ty_read room tokens.now) }
+{
+    let ((found, height), rest) = inside::ty(alloc, room, tokens)?;
+    Ok(((found.into_inner(), height), rest))
+}
 
 /// The type at a place of the tokens, as far as they go on with it, and the number of the token behind it. Types do not
 /// depend on fixities, which stay as they are.

@@ -29,61 +29,74 @@ fn place_of(ty: &Ty) -> Place
 }
 
 /// `t c`
-pub fn applied(alloc: Global, ty: (Ty, u32), name: LongIdent) -> Result<(Ty, u32), NoMemory>
+pub fn applied(
+    alloc: Global,
+    ty: (Boxed<Ty>, u32),
+    name: LongIdent,
+) -> Result<(Boxed<Ty>, u32), NoMemory>
     ensures { IfOk result (λ x. x ≡ grammar.applied ty name) }
 {
-    let place = place_of(&ty.0);
+    let place = place_of(ty.0.get());
     let height = above(ty.1, 0)?;
     let mut args = List::new(alloc);
-    args.push(ty.0)?;
-    Ok((Ty::TCon(place, args, name), height))
+    args.push(ty.0.into_inner())?;
+    Ok((Boxed::new(alloc, Ty::TCon(place, args, name))?, height))
 }
 
 /// `t * u * v`, where the parts behind the first have at most this height.
 pub fn tupled(
     alloc: Global,
-    first: (Ty, u32),
+    first: (Boxed<Ty>, u32),
     others: (List<Ty>, u32),
-) -> Result<(Ty, u32), NoMemory>
+) -> Result<(Boxed<Ty>, u32), NoMemory>
     ensures { IfOk result (λ x. x ≡ (made.TTuple (grammar.ty_place first.0) first.0 others.0, max first.1 others.1 + 1)) }
 {
-    let place = place_of(&first.0);
+    let place = place_of(first.0.get());
     let height = above(first.1, others.1)?;
-    let first = Boxed::new(alloc, first.0)?;
-    Ok((Ty::TTuple(place, first, others.0), height))
+    Ok((
+        Boxed::new(alloc, Ty::TTuple(place, first.0, others.0))?,
+        height,
+    ))
 }
 
 /// `t -> u`
-pub fn arrow(alloc: Global, from: (Ty, u32), to: (Ty, u32)) -> Result<(Ty, u32), NoMemory>
+pub fn arrow(
+    alloc: Global,
+    from: (Boxed<Ty>, u32),
+    to: (Boxed<Ty>, u32),
+) -> Result<(Boxed<Ty>, u32), NoMemory>
     ensures { IfOk result (λ x. x ≡ grammar.mapped_to from to) }
 {
-    let place = place_of(&from.0);
+    let place = place_of(from.0.get());
     let height = above(from.1, to.1)?;
-    let from = Boxed::new(alloc, from.0)?;
-    let to = Boxed::new(alloc, to.0)?;
-    Ok((Ty::Arrow(place, from, to), height))
+    Ok((Boxed::new(alloc, Ty::Arrow(place, from.0, to.0))?, height))
 }
 
 /// `(t)`
-pub fn paren(alloc: Global, place: Place, ty: (Ty, u32)) -> Result<(Ty, u32), NoMemory>
+pub fn paren(
+    alloc: Global,
+    place: Place,
+    ty: (Boxed<Ty>, u32),
+) -> Result<(Boxed<Ty>, u32), NoMemory>
     ensures { IfOk result (λ x. x ≡ (made.TParen place ty.0, ty.1 + 1)) }
 {
     let height = above(ty.1, 0)?;
-    let ty = Boxed::new(alloc, ty.0)?;
-    Ok((Ty::TParen(place, ty), height))
+    Ok((Boxed::new(alloc, Ty::TParen(place, ty.0))?, height))
 }
 
 /// `(t, u) c`, where the arguments behind the first have at most this height.
 pub fn put_into(
+    alloc: Global,
     place: Place,
-    first: (Ty, u32),
+    first: (Boxed<Ty>, u32),
     others: (List<Ty>, u32),
     name: LongIdent,
-) -> Result<(Ty, u32), NoMemory>
+) -> Result<(Boxed<Ty>, u32), NoMemory>
     ensures { IfOk result (λ x. x ≡ (made.TCon place (first.0 ∷ others.0) name, max first.1 others.1 + 1)) }
 {
     let height = above(first.1, others.1)?;
     let mut args = others.0.into_vec();
-    args.insert(0, first.0)?;
-    Ok((Ty::TCon(place, List::from_vec(args), name), height))
+    args.insert(0, first.0.into_inner())?;
+    let ty = Ty::TCon(place, List::from_vec(args), name);
+    Ok((Boxed::new(alloc, ty)?, height))
 }

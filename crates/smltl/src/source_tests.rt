@@ -4,6 +4,15 @@ use std::alloc::Global;
 use std::test::Fail;
 use tl_text::Code;
 
+/// A source with one part as many times.
+#[derive(Clone, Copy)]
+struct Large {
+    front: &'static str,
+    part: &'static str,
+    count: usize,
+    behind: &'static str,
+}
+
 // A unit with another text or name, or a source that is refused wrongly.
 #[test]
 fn translates_a_source(rt: HostRuntime) -> Result<(), Fail> {
@@ -224,20 +233,46 @@ fn refuses_a_source(rt: HostRuntime) -> Result<(), Fail> {
     Ok(())
 }
 
-// The same of a name that is too long.
+// The same of sources that are long or high.
 #[test]
-fn refuses_long_names(rt: HostRuntime) -> Result<(), Fail> {
+fn refuses_large_sources(rt: HostRuntime) -> Result<(), Fail> {
     let alloc = rt.alloc();
-    let mut source = Vec::from_slice(alloc, b"val x")?;
-    for _ in 0..255 {
-        source.push(b'x')?;
+    let long = Large {
+        front: "val x",
+        part: "x",
+        count: 255,
+        behind: " = 1",
+    };
+    let high = Large {
+        front: "val x = ",
+        part: "(",
+        count: 1_200,
+        behind: "1",
+    };
+    // Each loop stands for five expressions in one another.
+    let loops = Large {
+        front: "val x = ",
+        part: "while a do ",
+        count: 980,
+        behind: "a",
+    };
+    let cases = [
+        (long, 5, Code::NameLength, "9: name is too long"),
+        (high, 507, Code::Depth, "10: nesting is too deep"),
+        (loops, 1, Code::Unbuilt, "36: not supported yet"),
+    ];
+    for (source, col, code, said) in cases {
+        let mut text = Vec::from_slice(alloc, source.front.as_bytes())?;
+        for _ in 0..source.count {
+            text.extend_from_slice(source.part.as_bytes())?;
+        }
+        text.extend_from_slice(source.behind.as_bytes())?;
+        let files: [(&str, &[u8]); 2] = [("l.txt", b"a.sml\n"), ("a.sml", text.as_slice())];
+        let got = run_over(alloc, COMMAND, &files, &NO_FAULTS)?;
+        let notes = format!(in alloc; "a.sml:1:{col}: error {said}\n")?;
+        assert_eq!(rt; got.end, refused(1, col, code), "{said}");
+        assert_eq!(rt; got.notes.bytes(), notes.as_bytes(), "{said}");
     }
-    source.extend_from_slice(b" = 1")?;
-    let files: [(&str, &[u8]); 2] = [("l.txt", b"a.sml\n"), ("a.sml", source.as_slice())];
-    let got = run_over(alloc, COMMAND, &files, &NO_FAULTS)?;
-    let notes = "a.sml:1:5: error 9: name is too long\n";
-    assert_eq!(rt; got.end, refused(1, 5, Code::NameLength));
-    assert_eq!(rt; got.notes.bytes(), notes.as_bytes());
     Ok(())
 }
 

@@ -38,7 +38,8 @@ invariant-derive_functions-loop-one l =
     l.done ++ map (function l.place) (map (map derived_clause) (drop l.one-index l.functions))
     ≡ map (function l.place) (map (map derived_clause) l.functions)
 
--- three times the greatest depth of what is given, and a rank: 0 for a node, 1 for a row and for two nodes, 2 for a node and a row
+-- three times the greatest depth of what is given, and a rank: 0 for a node, 1 for a row and for what calls with nodes alone, 2 for
+-- what calls with a row
 abbrev pub decreases-derive_at_exp : goal.decreases-derive_at_exp
 decreases-derive_at_exp l = 3 * size-AtExp l.exp.now
 
@@ -75,11 +76,38 @@ decreases-derive_binds l = 3 * weight-Dec-Vals-3 l.binds.now + 1
 abbrev pub decreases-derive_functions : goal.decreases-derive_functions
 decreases-derive_functions l = 3 * weight-Dec-Funs-2 l.functions.now + 1
 
-abbrev pub decreases-derive_two : goal.decreases-derive_two
-decreases-derive_two l = 3 * max (size-Exp l.left.now) (size-Exp l.right.now) + 1
-
 abbrev pub decreases-derive_some : goal.decreases-derive_some
 decreases-derive_some l = 3 * max (size-Exp l.first.now) (weight-AtExp-Tuple-2 l.others.now) + 1
 
-abbrev pub decreases-derive_match : goal.decreases-derive_match
-decreases-derive_match l = 3 * max (size-Exp l.exp.now) (weight-Exp-Handle-2 l.rules.now) + 2
+abbrev pub decreases-derive_apply : goal.decreases-derive_apply
+decreases-derive_apply l = 3 * weight-Exp-Apply-1 l.atoms.now + 2
+
+abbrev pub decreases-derive_infix : goal.decreases-derive_infix
+decreases-derive_infix l = 3 * max (size-Exp l.left.now) (size-Exp l.right.now) + 1
+
+abbrev pub decreases-derive_typed : goal.decreases-derive_typed
+decreases-derive_typed l = 3 * size-Exp l.inner.now + 1
+
+abbrev pub decreases-derive_both : goal.decreases-derive_both
+decreases-derive_both l = 3 * max (size-Exp l.left.now) (size-Exp l.right.now) + 1
+
+abbrev pub decreases-derive_either : goal.decreases-derive_either
+decreases-derive_either l = 3 * max (size-Exp l.left.now) (size-Exp l.right.now) + 1
+
+abbrev pub decreases-derive_handle : goal.decreases-derive_handle
+decreases-derive_handle l = 3 * max (size-Exp l.inner.now) (weight-Exp-Handle-2 l.rules.now) + 2
+
+abbrev pub decreases-derive_raise : goal.decreases-derive_raise
+decreases-derive_raise l = 3 * size-Exp l.inner.now + 1
+
+abbrev pub decreases-derive_if : goal.decreases-derive_if
+decreases-derive_if l = 3 * max (size-Exp l.test.now) (max (size-Exp l.first.now) (size-Exp l.other.now)) + 1
+
+abbrev pub decreases-derive_while : goal.decreases-derive_while
+decreases-derive_while l = 3 * max (size-Exp l.test.now) (size-Exp l.action.now) + 1
+
+abbrev pub decreases-derive_case : goal.decreases-derive_case
+decreases-derive_case l = 3 * max (size-Exp l.inner.now) (weight-Exp-Handle-2 l.rules.now) + 2
+
+abbrev pub decreases-derive_fn : goal.decreases-derive_fn
+decreases-derive_fn l = 3 * weight-Exp-Handle-2 l.rules.now + 2

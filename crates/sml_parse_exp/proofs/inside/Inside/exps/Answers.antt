@@ -21,7 +21,7 @@ items-smaller g c = seps_smaller trees.exp_tree height_of (is c.args.separator) 
 
 pub items-preserved : goal.items-preserved
 items-preserved g c = (
-  rw (c.in_ok-push-2.ensures.ok, c.higher-height.ensures) (seps_turn trees.exp_tree height_of (is c.args.separator) (levels.exp c.args.scope.now c.args.room) (word_exp_less c.args.scope.now c.args.room c.args.separator) c.items.found c.items.height c.items.rest.now c.in_ok-after.after.now (trees.seen c.in_ok-other.other, c.in_ok-other.after.now) _ c.items.invariant.0
+  rw (c.in_ok-push-2.ensures.ok, c.into_inner-in-items.ensures, c.higher-height.ensures) (seps_turn trees.exp_tree height_of (is c.args.separator) (levels.exp c.args.scope.now c.args.room) (word_exp_less c.args.scope.now c.args.room c.args.separator) c.items.found c.items.height c.items.rest.now c.in_ok-after.after.now (trees.seen c.in_ok-other.other, c.in_ok-other.after.now) _ c.items.invariant.0
       (sym c.is_next.ensures ∙ c.items-test.true) c.in_ok-after.ensures (ap (λ (cs : Changes). levels.exp cs c.args.room c.in_ok-after.after.now) (sym c.items.invariant.1) ∙ c.in_ok-other.ensures.gives)),
   c.in_ok-other.ensures.keeps ∙ c.items.invariant.1,
 )

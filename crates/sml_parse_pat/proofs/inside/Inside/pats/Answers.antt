@@ -24,7 +24,7 @@ items-smaller g c =
 pub items-preserved : goal.items-preserved
 items-preserved g c =
     let fix = settings c.args.self.now.fix.now in
-    rw (c.in_ok-push-2.ensures.ok, c.higher-height.ensures) (seps_turn pat_tree height_of (is COMMA) (levels.pat fix c.args.room) (comma_pat_less fix c.args.room) c.items.found c.items.height c.items.rest.now c.in_ok-after.after.now (c.in_ok-other.other, c.in_ok-other.after.now) _ c.items.invariant (sym c.is_next.ensures ∙ c.items-test.true) c.in_ok-after.ensures c.in_ok-other.ensures)
+    rw (c.in_ok-push-2.ensures.ok, c.into_inner-in-items.ensures, c.higher-height.ensures) (seps_turn pat_tree height_of (is COMMA) (levels.pat fix c.args.room) (comma_pat_less fix c.args.room) c.items.found c.items.height c.items.rest.now c.in_ok-after.after.now (c.in_ok-other.other, c.in_ok-other.after.now) _ c.items.invariant (sym c.is_next.ensures ∙ c.items-test.true) c.in_ok-after.ensures c.in_ok-other.ensures)
 
 pub returns : goal.returns
 returns g c =

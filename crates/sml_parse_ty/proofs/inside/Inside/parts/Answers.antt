@@ -18,7 +18,7 @@ items-smaller g c = seps_smaller ty_tree height_of is_times (con_read c.args.roo
 
 pub items-preserved : goal.items-preserved
 items-preserved g c =
-    rw (c.in_ok-push-2.ensures.ok, c.higher-height.ensures) (seps_turn ty_tree height_of is_times (con_read c.args.room) (star_con_less c.args.room) c.items.found c.items.height c.items.rest.now c.in_ok-after.after.now (c.in_ok-other.other, c.in_ok-other.after.now) _ c.items.invariant (sym c.is_times.ensures ∙ c.items-test.true) c.in_ok-after.ensures c.in_ok-other.ensures)
+    rw (c.in_ok-push-2.ensures.ok, c.into_inner-in-items.ensures, c.higher-height.ensures) (seps_turn ty_tree height_of is_times (con_read c.args.room) (star_con_less c.args.room) c.items.found c.items.height c.items.rest.now c.in_ok-after.after.now (c.in_ok-other.other, c.in_ok-other.after.now) _ c.items.invariant (sym c.is_times.ensures ∙ c.items-test.true) c.in_ok-after.ensures c.in_ok-other.ensures)
 
 pub returns : goal.returns
 returns g c = seps_end ty_tree height_of is_times (con_read c.args.room) (star_con_less c.args.room) c.items.found c.items.height c.items.rest.now _ c.items.invariant (sym c.is_times.ensures ∙ c.items-test.false)

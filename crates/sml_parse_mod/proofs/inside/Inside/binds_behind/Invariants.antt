@@ -6,11 +6,11 @@ use Rattle.sml_parse_mod.specs.Levels as levels
 use Rattle.sml_parse_mod.specs.Trees as trees
 use Rattle.sml_parse_mod.proofs.Loops.{row}
 use Rattle.sml_parse_mod.proofs.Steps.{binding_less}
-use Rattle.sml_parse_mod.proofs.inside.Inside.binds.Given as goal
+use Rattle.sml_parse_mod.proofs.inside.Inside.binds_behind.Given as goal
 
 abbrev pub invariant-turns : goal.invariant-turns
 invariant-turns g l =
-    (mapped trees.strbinds (levels.binds l.fn.scope l.room) l.tokens ≡ row (λ (k : Changes). levels.bind k l.room) l.room strbind_of (λ (k : Changes). binding_less k l.room) l.fn.scope l.row (trees.bind l.last) l.rest)
+    (mapped trees.strbinds (levels.binds_behind l.fn.scope l.room (trees.bind l.fn.first)) l.tokens ≡ row (λ (k : Changes). levels.bind k l.room) l.room strbind_of (λ (k : Changes). binding_less k l.room) l.fn.scope l.row (trees.bind l.last) l.rest)
     × (l.scope ≡ l.fn.scope)
 
 abbrev pub decreases-turns : goal.decreases-turns
